@@ -116,3 +116,8 @@ module _ (o : Option Counts) (n y t : ℕ) (xs rest : List Arrow) (a : Arrow) (e
 
   pub arrow-new : new-after [] xs ≡ true → has xs a ≡ false → new-after [] rest ≡ true
   arrow-new all h = ap (new-after []) e ∙ new-push [] xs a all h
+
+-- the facts that a draft keeps, in the order of its ghost fields
+pub kept-facts : {A B C D E F G H I J : Type 0} → A → B → C → D → E → F → G → H → I → J
+    → A × (B × (C × (D × (E × (F × (G × (H × (I × (J × Unit {0})))))))))
+kept-facts a b c d e f g h i j = (a, (b, (c, (d, (e, (f, (g, (h, (i, (j, tt))))))))))

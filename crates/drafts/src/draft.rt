@@ -3,7 +3,7 @@ ghost use mathlib.Core.Path.{_≡_};
 ghost use mathlib.Core.List.{[]};
 ghost use mathlib.Core.Bool.{true, not};
 ghost use Prim.Native.Nat.{_≤_};
-ghost use lib.ListN.{drop};
+ghost use lib.ListN.{drop, length};
 ghost use Rattle.std.specs.Of.Vec.{vec-cap, vec-len, vec-items};
 ghost use Rattle.drafts.specs.Sheet.{counts-fit, rule-fits, arrow-fits, new-after, every, states};
 use crate::call::Arrow;
@@ -26,5 +26,6 @@ pub struct Draft {
     ghost arrows_new: { new-after [] (vec-items arrows) ≡ true },
     ghost arrows_few: { vec-len arrows ≤ 128 },
     ghost arrows_room: { 128 ≤ vec-cap arrows },
+    ghost finals_all: { length finals ≡ 32 },
     ghost finals_fit: { every not (drop (states counts) finals) ≡ true },
 }
