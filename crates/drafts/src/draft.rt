@@ -11,6 +11,7 @@ use crate::call::Counts;
 use crate::call::Rule;
 
 mod adds;
+mod reads;
 
 #[derive(Drop)]
 pub struct Draft {

@@ -1,0 +1,8 @@
+-- One bit of a number.
+use mathlib.Core.Bool.{Bool}
+use Prim.Native.Nat.{ℕ, _/_, _%_, _^_}
+use lib.Dec.{eqb}
+
+-- bit k of n, counted from the lowest
+abbrev pub bit : ℕ → ℕ → Bool
+bit n k = eqb (n / 2 ^ k % 2) 1

@@ -1,0 +1,3 @@
+pub mod Facts
+pub mod Sets
+pub mod Stored

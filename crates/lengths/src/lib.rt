@@ -1,0 +1,2 @@
+//! Lengths: what the shortest run costs.
+pub mod weight;

@@ -1,0 +1,2 @@
+//! Weights that are relations over eight flags.
+pub mod weight;
