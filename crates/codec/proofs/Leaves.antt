@@ -1,27 +1,26 @@
 -- Weights of one entry: a byte of kind k, and a body of n bytes that f makes a weight of, if it is one.
 use mathlib.Core.Path.{_≡_, refl, sym, ap, _∙_}
 use mathlib.Core.List.{List, [], _∷_, _++_}
-use mathlib.Core.Bool.{Bool, true, false, cond}
+use mathlib.Core.Bool.{Bool, true, false}
 use Prim.Native.Nat.{ℕ, zero, suc, _+_, _*_, _/_, _%_, _^_, _≤_, _<_}
 use native.Mathlib.Omega.{arith}
 use native.Mathlib.Nat.{add-zero, one-le-pow, pow-suc, pow-succ', div-div-eq-div-mul}
 use lib.Arith.{mod-mul}
 use lib.Dec.{leb, eqb}
-use lib.ListN.{length, getD, take, drop, length-append}
+use lib.ListN.{length, getD, drop, length-append}
 use borrow.Author.Tests.{le-leb, lt-leb, eq-eqb, ne-eqb}
 use Rattle.std.specs.shelf.Digits.{number}
 use Rattle.std.proofs.shelf.Digits.{number-push}
 use Rattle.std.proofs.shelf.Lists.{take-at, drop-at, drop-more}
 use Rattle.std.specs.declared.option.Option.{Option}
 use Rattle.std.specs.declared.option.Option.the-variants.{Some, None}
-use Rattle.std.specs.declared.result.Result.{Result}
 use Rattle.std.specs.declared.result.Result.the-variants.{Ok, Err}
 use Rattle.codec.specs.declared.fault.EntryFault.{EntryFault}
 use Rattle.codec.specs.declared.fault.EntryFault.the-variants.{Cut, Due, NoValue}
 use Rattle.codec.specs.declared.reader.Reader.{Reader}
 use Rattle.codec.specs.Look.{Look, missed, due, valued, judged, made-of, wide}
-use Rattle.codec.specs.Left.{left, At, Passes}
-use Rattle.codec.specs.Coded.{Read, Gives, ReadsAs}
+use Rattle.codec.specs.Left.{left, Passes}
+use Rattle.codec.specs.Coded.{Read, Gives}
 use Rattle.codec.proofs.Passing.{went-on, left-after}
 use Rattle.codec.proofs.Codes.{Code}
 

@@ -9,8 +9,8 @@ use Rattle.std.specs.Results.{ErrBy}
 use Rattle.codec.specs.declared.fault.EntryFault.{EntryFault}
 use Rattle.codec.specs.declared.reader.Reader.{Reader}
 use Rattle.codec.specs.Look.{Look, done, onward, and-then}
-use Rattle.codec.specs.Left.{left, At}
-use Rattle.codec.specs.Coded.{Read, Gives, ReadsAs, pair-with, look-pair, with-one, with-two, with-three, look-square}
+use Rattle.codec.specs.Left.{left}
+use Rattle.codec.specs.Coded.{Read, Gives, pair-with, look-pair, with-one, with-two, with-three, look-square}
 use Rattle.weights.specs.Layers.{Both, both, both-is, Quad, quad, quad-is}
 use Rattle.weights.specs.declared.pair.Pair.{Pair}
 use Rattle.weights.specs.declared.square.Square.{Square}

@@ -1,2 +1,3 @@
 //! Lengths: what the shortest run costs.
+pub mod entry;
 pub mod weight;

@@ -1,4 +1,4 @@
-use Rattle.codec.proofs.Codes.{Code, code}
+use Rattle.codec.proofs.Codes.{code}
 use Rattle.codec.proofs.Pairs.{pair-code}
 use Rattle.codec.proofs.pair.PairCoded.the-impl.Needs as need
 

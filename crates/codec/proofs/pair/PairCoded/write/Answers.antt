@@ -3,7 +3,7 @@ use Prim.Native.Nat.{_+_, _≤_}
 use lib.ListN.{length}
 use Rattle.codec.specs.Splice.{Wrote}
 use Rattle.codec.proofs.Puts.{then-wrote, full-more}
-use Rattle.codec.proofs.Codes.{Code, code, reads-back}
+use Rattle.codec.proofs.Codes.{code, reads-back}
 use Rattle.codec.proofs.Pairs.{pair-code}
 use Rattle.codec.proofs.pair.PairCoded.write.Needs as need
 

@@ -1,4 +1,4 @@
-use Rattle.codec.proofs.Codes.{Code, code}
+use Rattle.codec.proofs.Codes.{code}
 use Rattle.codec.proofs.Pairs.{square-code}
 use Rattle.codec.proofs.square.SquareCoded.the-impl.Needs as need
 

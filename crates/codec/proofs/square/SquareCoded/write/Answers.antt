@@ -4,7 +4,7 @@ use Prim.Native.Nat.{_+_, _≤_}
 use lib.ListN.{length}
 use Rattle.codec.specs.Splice.{Wrote}
 use Rattle.codec.proofs.Puts.{then-written, then-wrote, room-after, never-full, full-more}
-use Rattle.codec.proofs.Codes.{Code, code, reads-back}
+use Rattle.codec.proofs.Codes.{code, reads-back}
 use Rattle.codec.proofs.Pairs.{square-code, length-then}
 use Rattle.codec.proofs.square.SquareCoded.write.Needs as need
 
