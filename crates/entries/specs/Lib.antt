@@ -1,0 +1,4 @@
+pub mod Faults
+pub mod Spell
+pub mod Load
+pub mod Store
