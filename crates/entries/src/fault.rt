@@ -3,6 +3,7 @@ ghost use mathlib.Core.Path.{_≡_};
 ghost use Rattle.entries.specs.Faults.{of-entry, of-sheet, layer-of, lower-number, store-number};
 use codec::fault::EntryFault;
 use drafts::fault::SheetFault;
+use std::fmt;
 
 // Which entry is at fault: its number, counted from 1, and the place where it begins, counted from 0.
 #[derive(Clone, Copy, Drop)]
@@ -23,7 +24,6 @@ pub enum Lower {
 pub enum Layer {
     Entry,
     Sheet,
-    Solve,
 }
 
 #[derive(Clone, Copy, Drop)]
@@ -49,6 +49,23 @@ impl LoadFault {
             Lower::Entry(fault) => fault.number(),
             Lower::Sheet(fault) => fault.number(),
         }
+    }
+}
+
+// Where and why bytes were refused.
+pub impl fmt::Display for LoadFault as LoadFaultDisplay {
+    fn fmt<W: fmt::Write>(&self, f: &mut fmt::Formatter<W>) -> fmt::Result {
+        let entry = self.spot.entry;
+        let place = self.spot.place;
+        let number = self.number();
+        let layer = match self.layer() {
+            Layer::Entry => "entry",
+            Layer::Sheet => "sheet",
+        };
+        write!(
+            f,
+            "entry {entry} byte {place} layer {layer} refused {number}"
+        )
     }
 }
 
