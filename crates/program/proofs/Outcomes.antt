@@ -11,8 +11,8 @@ use Rattle.std.proofs.shelf.Tests.{le-leb, lt-leb}
 use Rattle.codec.specs.Look.{Look}
 use Rattle.drafts.specs.Sheet.{Sheet, blank}
 use Rattle.drafts.specs.Questions.{State, at}
-use Rattle.entries.specs.declared.fault.LoadFault.{LoadFault}
-use Rattle.entries.specs.Load.{loading}
+use Rattle.faults.specs.declared.LoadFault.{LoadFault}
+use Rattle.loading.specs.Load.{loading}
 use Rattle.program.specs.Outcome.{Outcome, too-long, refused, loaded, found, outcome}
 
 module _ {W : Type 0} (look : List ℕ → Look W) (cell : W) (input : List ℕ) where

@@ -11,8 +11,8 @@ use Rattle.codec.specs.Look.{Look}
 use Rattle.drafts.specs.Sheet.{blank}
 use Rattle.drafts.specs.Questions.{State, at}
 use Rattle.drafts.specs.Held.{held}
-use Rattle.entries.specs.declared.fault.LoadFault.{LoadFault}
-use Rattle.entries.specs.Load.{Loaded, loading}
+use Rattle.faults.specs.declared.LoadFault.{LoadFault}
+use Rattle.loading.specs.Load.{Loaded, loading}
 use Rattle.program.specs.declared.report.Report.{Report}
 use Rattle.program.specs.declared.report.Report.the-variants.{TooLong, Refused, Loaded as Whole}
 

@@ -5,7 +5,7 @@ use drafts::call::Arrow;
 use drafts::call::Counts;
 use drafts::call::Right;
 use drafts::call::Rule;
-use entries::fault::LoadFaultDisplay;
+use faults::LoadFaultDisplay;
 use lengths::weight::Length;
 use std::fmt;
 

@@ -1,6 +1,6 @@
 //! What the program has to say of an input.
 use drafts::draft::Draft;
-use entries::fault::LoadFault;
+use faults::LoadFault;
 
 // A sheet that was read whole: the draft, and the strip that holds its rules' weights.
 #[derive(Drop)]

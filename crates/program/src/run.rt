@@ -8,7 +8,7 @@ use crate::report::Loaded;
 use crate::report::Report;
 use codec::coded::Coded;
 use drafts::draft::Draft;
-use entries::load::load;
+use loading::load::load;
 use std::alloc::AllocError;
 use std::alloc::Global;
 

@@ -1,4 +1,0 @@
-pub mod Faults
-pub mod Spell
-pub mod Load
-pub mod Store

@@ -1,5 +1,0 @@
-//! Sheets as entries.
-pub mod call;
-pub mod fault;
-pub mod load;
-pub mod store;

@@ -1,0 +1,3 @@
+//! Sheets read from entries.
+pub mod call;
+pub mod load;

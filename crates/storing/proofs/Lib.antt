@@ -1,0 +1,3 @@
+pub mod Nths
+pub mod Writes
+pub mod Backs

@@ -1,0 +1,2 @@
+//! Sheets written as entries.
+pub mod store;
