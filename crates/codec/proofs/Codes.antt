@@ -7,9 +7,9 @@ use lib.ListN.{length, drop}
 use Rattle.std.specs.declared.option.Option.{Option}
 use Rattle.std.specs.declared.option.Option.the-variants.{Some, None}
 use Rattle.codec.specs.Look.{Look}
-use Rattle.codec.specs.Splice.{Written, Wrote}
+use Rattle.reading.specs.Splice.{Written, Wrote}
 use Rattle.codec.specs.Coded.{ReadsAs, ReadsBack}
-use Rattle.codec.proofs.Puts.{drop-splice, drop-behind}
+use Rattle.reading.proofs.Puts.{drop-splice, drop-behind}
 
 pub record Code (W V : Type 0) : Type 0 where
   pub look : List ℕ → Look W

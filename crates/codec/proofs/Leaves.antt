@@ -15,13 +15,13 @@ use Rattle.std.proofs.shelf.Lists.{take-at, drop-at, drop-more}
 use Rattle.std.specs.declared.option.Option.{Option}
 use Rattle.std.specs.declared.option.Option.the-variants.{Some, None}
 use Rattle.std.specs.declared.result.Result.the-variants.{Ok, Err}
-use Rattle.codec.specs.declared.fault.EntryFault.{EntryFault}
-use Rattle.codec.specs.declared.fault.EntryFault.the-variants.{Cut, Due, NoValue}
-use Rattle.codec.specs.declared.reader.Reader.{Reader}
+use Rattle.reading.specs.declared.fault.EntryFault.{EntryFault}
+use Rattle.reading.specs.declared.fault.EntryFault.the-variants.{Cut, Due, NoValue}
+use Rattle.reading.specs.declared.reader.Reader.{Reader}
 use Rattle.codec.specs.Look.{Look, missed, due, valued, judged, made-of, wide}
-use Rattle.codec.specs.Left.{left, Passes}
+use Rattle.reading.specs.Left.{left, Passes}
 use Rattle.codec.specs.Coded.{Read, Gives}
-use Rattle.codec.proofs.Passing.{went-on, left-after}
+use Rattle.reading.proofs.Passing.{went-on, left-after}
 use Rattle.codec.proofs.Codes.{Code}
 
 -- n elements from i on

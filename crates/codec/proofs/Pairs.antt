@@ -6,10 +6,10 @@ use native.Mathlib.Omega.{arith}
 use Rattle.std.specs.declared.result.Result.{Result}
 use Rattle.std.specs.declared.result.Result.the-variants.{Ok, Err}
 use Rattle.std.specs.Results.{ErrBy}
-use Rattle.codec.specs.declared.fault.EntryFault.{EntryFault}
-use Rattle.codec.specs.declared.reader.Reader.{Reader}
+use Rattle.reading.specs.declared.fault.EntryFault.{EntryFault}
+use Rattle.reading.specs.declared.reader.Reader.{Reader}
 use Rattle.codec.specs.Look.{Look, done, onward, and-then}
-use Rattle.codec.specs.Left.{left}
+use Rattle.reading.specs.Left.{left}
 use Rattle.codec.specs.Coded.{Read, Gives, pair-with, look-pair, with-one, with-two, with-three, look-square}
 use Rattle.weights.specs.Layers.{Both, both, both-is, Quad, quad, quad-is}
 use Rattle.weights.specs.declared.pair.Pair.{Pair}

@@ -9,10 +9,10 @@ use Rattle.std.specs.declared.result.Result.{Result}
 use Rattle.std.specs.declared.result.Result.the-variants.{Ok}
 use Rattle.weights.specs.declared.pair.Pair.{Pair}
 use Rattle.weights.specs.declared.square.Square.{Square}
-use Rattle.codec.specs.declared.fault.EntryFault.{EntryFault}
-use Rattle.codec.specs.declared.reader.Reader.{Reader}
+use Rattle.reading.specs.declared.fault.EntryFault.{EntryFault}
+use Rattle.reading.specs.declared.reader.Reader.{Reader}
 use Rattle.codec.specs.Look.{Look, done, and-then}
-use Rattle.codec.specs.Left.{left, At}
+use Rattle.reading.specs.Left.{left, At}
 
 -- what a reader has done that read by `look`
 pub record Read {W : Type 0} (look : List ℕ → Look W) (before after : Reader) (r : Result W EntryFault) : Type 0 where

@@ -1,5 +1,2 @@
-pub mod Faults
 pub mod Look
-pub mod Left
-pub mod Splice
 pub mod Coded

@@ -8,8 +8,8 @@ use Rattle.std.specs.declared.option.Option.{Option}
 use Rattle.std.specs.declared.option.Option.the-variants.{Some, None}
 use Rattle.std.specs.declared.result.Result.{Result}
 use Rattle.std.specs.declared.result.Result.the-variants.{Ok, Err}
-use Rattle.codec.specs.declared.fault.EntryFault.{EntryFault}
-use Rattle.codec.specs.declared.fault.EntryFault.the-variants.{Cut, Due, NoValue}
+use Rattle.reading.specs.declared.fault.EntryFault.{EntryFault}
+use Rattle.reading.specs.declared.fault.EntryFault.the-variants.{Cut, Due, NoValue}
 
 -- the answer, how many bytes and entries were passed for it, and what is left
 pub record Look (W : Type 0) : Type 0 where

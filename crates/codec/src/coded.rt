@@ -6,11 +6,11 @@ ghost use lib.ListN.{length};
 ghost use Rattle.std.specs.Options.{Cases};
 ghost use Rattle.std.specs.Vec.{made};
 ghost use Rattle.codec.specs.Coded.{Read, ReadsAs, ReadsBack};
-ghost use Rattle.codec.specs.Left.{left};
+ghost use Rattle.reading.specs.Left.{left};
 ghost use Rattle.codec.specs.Look.{Look};
-ghost use Rattle.codec.specs.Splice.{Wrote};
-use crate::fault::EntryFault;
-use crate::reader::Reader;
+ghost use Rattle.reading.specs.Splice.{Wrote};
+use reading::fault::EntryFault;
+use reading::reader::Reader;
 use weights::weight::Weight;
 
 // A kind of weight with entries. The width of a weight's entries together is the same for all of the kind.

@@ -3,8 +3,8 @@ ghost use mathlib.Core.List.{_++_};
 ghost use Prim.Native.Nat.{_+_};
 ghost use Rattle.codec.specs.Coded.{look-square};
 use crate::coded::Coded;
-use crate::fault::EntryFault;
-use crate::reader::Reader;
+use reading::fault::EntryFault;
+use reading::reader::Reader;
 use weights::square::Square;
 use weights::square::SquareWeight;
 

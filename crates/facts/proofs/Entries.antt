@@ -14,8 +14,8 @@ use Rattle.std.proofs.shelf.Tests.{cases-bool, eq-eqb}
 use Rattle.bits.specs.Upto.{place}
 use Rattle.bits.proofs.Bitwise.{bit-mod}
 use Rattle.bits.proofs.Uptos.{place-below}
-use Rattle.codec.specs.declared.reader.Reader.{Reader}
-use Rattle.codec.specs.Left.{left, Passes}
+use Rattle.reading.specs.declared.reader.Reader.{Reader}
+use Rattle.reading.specs.Left.{left, Passes}
 use Rattle.codec.specs.Look.{wide}
 use Rattle.codec.specs.Coded.{Read}
 use Rattle.codec.proofs.Codes.{Code}

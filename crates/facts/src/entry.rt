@@ -6,9 +6,9 @@ use crate::known::Known;
 use crate::weight::Facts;
 use crate::weight::FactsWeight;
 use codec::coded::Coded;
-use codec::fault::EntryFault;
-use codec::put::put;
-use codec::reader::Reader;
+use reading::fault::EntryFault;
+use reading::put::put;
+use reading::reader::Reader;
 use weights::weight::Weight;
 
 pub impl Coded for Facts as FactsCoded {

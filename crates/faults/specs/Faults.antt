@@ -1,7 +1,7 @@
 -- The faults of a load and of a store, with their numbers.
 use Prim.Native.Nat.{ℕ}
-use Rattle.codec.specs.declared.fault.EntryFault.{EntryFault}
-use Rattle.codec.specs.Faults.{fault-number as entry-number}
+use Rattle.reading.specs.declared.fault.EntryFault.{EntryFault}
+use Rattle.reading.specs.Faults.{fault-number as entry-number}
 use Rattle.drafts.specs.declared.fault.SheetFault.{SheetFault}
 use Rattle.drafts.specs.Faults.{fault-number as sheet-number}
 use Rattle.faults.specs.declared.Lower.{Lower}

@@ -8,8 +8,8 @@ use lib.ListN.{length, getD}
 use Rattle.std.specs.declared.option.Option.the-variants.{Some}
 use Rattle.std.specs.declared.result.Result.the-variants.{Ok}
 use Rattle.std.specs.shelf.Digits.{number}
-use Rattle.codec.specs.declared.reader.Reader.{Reader}
-use Rattle.codec.specs.Left.{left, Passes}
+use Rattle.reading.specs.declared.reader.Reader.{Reader}
+use Rattle.reading.specs.Left.{left, Passes}
 use Rattle.codec.specs.Look.{wide}
 use Rattle.codec.specs.Coded.{Read}
 use Rattle.codec.proofs.Codes.{Code}

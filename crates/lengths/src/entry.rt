@@ -7,9 +7,9 @@ ghost use Rattle.lengths.specs.Lengths.{longest};
 use crate::weight::Length;
 use crate::weight::LengthWeight;
 use codec::coded::Coded;
-use codec::fault::EntryFault;
-use codec::put::put;
-use codec::reader::Reader;
+use reading::fault::EntryFault;
+use reading::put::put;
+use reading::reader::Reader;
 
 pub impl Coded for Length as LengthCoded {
     ghost bytes = { λ x. 17 ∷ wide 2 (min (x .0) longest) };

@@ -10,11 +10,11 @@ use Rattle.std.proofs.shelf.Tests.{ne-eqb}
 use Rattle.std.specs.declared.option.Option.the-variants.{Some}
 use Rattle.std.specs.declared.result.Result.{Result}
 use Rattle.std.specs.declared.result.Result.the-variants.{Ok, Err}
-use Rattle.codec.specs.declared.fault.EntryFault.{EntryFault}
-use Rattle.codec.specs.declared.fault.EntryFault.the-variants.{Unknown}
-use Rattle.codec.specs.declared.reader.Reader.{Reader}
+use Rattle.reading.specs.declared.fault.EntryFault.{EntryFault}
+use Rattle.reading.specs.declared.fault.EntryFault.the-variants.{Unknown}
+use Rattle.reading.specs.declared.reader.Reader.{Reader}
 use Rattle.codec.specs.Look.{Look, missed, done}
-use Rattle.codec.specs.Left.{left, Passes}
+use Rattle.reading.specs.Left.{left, Passes}
 use Rattle.codec.specs.Coded.{Read}
 use Rattle.codec.proofs.Pairs.{read-then, read-stop, read-done}
 use Rattle.codec.proofs.Leaves.{firsts, read-missed, leaf-read, leaf-spelled}

@@ -9,12 +9,12 @@ use Rattle.std.proofs.shelf.Lists.{take-at, take-all, take-append-drop, length-
 use Rattle.std.specs.declared.option.Option.the-variants.{None}
 use Rattle.std.specs.declared.result.Result.{Result}
 use Rattle.std.specs.declared.result.Result.the-variants.{Ok, Err}
-use Rattle.codec.specs.declared.fault.EntryFault.{EntryFault}
-use Rattle.codec.specs.declared.reader.Reader.{Reader}
+use Rattle.reading.specs.declared.fault.EntryFault.{EntryFault}
+use Rattle.reading.specs.declared.reader.Reader.{Reader}
 use Rattle.codec.specs.Look.{Look}
-use Rattle.codec.specs.Left.{left, At}
+use Rattle.reading.specs.Left.{left, At}
 use Rattle.codec.specs.Coded.{Read}
-use Rattle.codec.proofs.Passing.{length-left}
+use Rattle.reading.proofs.Passing.{length-left}
 use Rattle.drafts.specs.declared.fault.SheetFault.{SheetFault}
 use Rattle.drafts.specs.declared.call.Call.{Call}
 use Rattle.drafts.specs.Sheet.{Sheet, blank}

@@ -9,10 +9,10 @@ use Rattle.std.specs.declared.option.Option.{Option}
 use Rattle.std.specs.declared.option.Option.the-variants.{Some, None}
 use Rattle.std.specs.declared.result.Result.{Result}
 use Rattle.std.specs.declared.result.Result.the-variants.{Ok, Err}
-use Rattle.codec.specs.declared.fault.EntryFault.{EntryFault}
-use Rattle.codec.specs.declared.reader.Reader.{Reader}
+use Rattle.reading.specs.declared.fault.EntryFault.{EntryFault}
+use Rattle.reading.specs.declared.reader.Reader.{Reader}
 use Rattle.codec.specs.Look.{Look}
-use Rattle.codec.specs.Left.{left}
+use Rattle.reading.specs.Left.{left}
 use Rattle.codec.specs.Coded.{Read}
 use Rattle.drafts.specs.declared.fault.SheetFault.{SheetFault}
 use Rattle.drafts.specs.declared.call.Call.{Call}

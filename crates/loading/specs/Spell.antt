@@ -5,7 +5,7 @@ use Prim.Native.Nat.{ℕ, _+_, _*_}
 use lib.Dec.{eqb}
 use lib.ListN.{getD}
 use Rattle.std.specs.declared.option.Option.the-variants.{Some}
-use Rattle.codec.specs.declared.fault.EntryFault.the-variants.{Unknown}
+use Rattle.reading.specs.declared.fault.EntryFault.the-variants.{Unknown}
 use Rattle.codec.specs.Look.{Look, wide, due, missed, done, and-then, made-of}
 use Rattle.drafts.specs.Sheet.{Sheet}
 use Rattle.drafts.specs.Calls.{calls-of}

@@ -2,16 +2,16 @@
 ghost use mathlib.Core.Path.{_≡_};
 ghost use mathlib.Core.List.{_++_};
 ghost use Rattle.std.specs.Vec.{made};
-ghost use Rattle.codec.specs.Left.{left};
+ghost use Rattle.reading.specs.Left.{left};
 ghost use Rattle.codec.specs.Coded.{Read};
 ghost use Rattle.loading.specs.Spell.{look-call, spell};
 use codec::coded::Coded;
-use codec::fault::EntryFault;
-use codec::reader::Reader;
 use drafts::call::Arrow;
 use drafts::call::Call;
 use drafts::call::Counts;
 use drafts::call::RuleForm;
+use reading::fault::EntryFault;
+use reading::reader::Reader;
 
 // A fault leaves the reader before the entry that is at fault, which can be one of the weight's. A call that
 // was read spells as its very bytes.

@@ -4,7 +4,7 @@ ghost use mathlib.Core.Bool.{not};
 ghost use lib.ListN.{length};
 ghost use Rattle.std.specs.Results.{Cases};
 ghost use Rattle.std.specs.declared.result.Result.the-variants.{Ok};
-ghost use Rattle.codec.specs.Left.{left};
+ghost use Rattle.reading.specs.Left.{left};
 ghost use Rattle.drafts.specs.Sheet.{blank};
 ghost use Rattle.drafts.specs.Held.{held};
 ghost use Rattle.drafts.specs.Questions.{at};
@@ -12,13 +12,13 @@ ghost use Rattle.drafts.specs.Calls.{InOrder};
 ghost use Rattle.loading.specs.Load.{ends, spot-of, loading, calls-in, Called, Failed};
 ghost use Rattle.loading.specs.Spell.{stored};
 use crate::call::read_call;
+use codec::coded::Coded;
+use drafts::draft::Draft;
 use faults::FromEntry;
 use faults::FromSheet;
 use faults::LoadFault;
 use faults::Spot;
-use codec::coded::Coded;
-use codec::reader::Reader;
-use drafts::draft::Draft;
+use reading::reader::Reader;
 
 // Whether there is an entry to load: a load ends with the bytes, or before an entry of kind 5.
 fn more(from: &Reader<'_>) -> bool

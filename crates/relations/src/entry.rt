@@ -5,9 +5,9 @@ ghost use Rattle.relations.specs.Entries.{look-relation};
 use crate::weight::Relation;
 use crate::weight::RelationWeight;
 use codec::coded::Coded;
-use codec::fault::EntryFault;
-use codec::put::put;
-use codec::reader::Reader;
+use reading::fault::EntryFault;
+use reading::put::put;
+use reading::reader::Reader;
 
 pub impl Coded for Relation as RelationCoded {
     ghost bytes = { λ x. 16 ∷ wide 8 (x .0) };

@@ -16,7 +16,7 @@ use Rattle.std.specs.declared.result.Result.{Result}
 use Rattle.std.specs.declared.result.Result.the-variants.{Ok, Err}
 use Rattle.codec.specs.Look.{done}
 use Rattle.codec.specs.Coded.{Gives}
-use Rattle.codec.specs.Splice.{splice, Written}
+use Rattle.reading.specs.Splice.{splice, Written}
 use Rattle.codec.proofs.Codes.{Code}
 use Rattle.codec.proofs.Pairs.{gives-then, gives-done}
 use Rattle.codec.proofs.Leaves.{leaf-back}

@@ -9,8 +9,8 @@ use Rattle.std.specs.Options.{Cases}
 use Rattle.std.specs.declared.option.Option.{Option}
 use Rattle.std.specs.declared.option.Option.the-variants.{Some, None}
 use Rattle.std.proofs.shelf.Lists.{take-all, take-append-drop}
-use Rattle.codec.specs.Splice.{splice, Written, Wrote}
-use Rattle.codec.proofs.Puts.{splice-more, then-wrote}
+use Rattle.reading.specs.Splice.{splice, Written, Wrote}
+use Rattle.reading.proofs.Puts.{splice-more, then-wrote}
 use Rattle.drafts.specs.declared.call.RuleForm.{RuleForm}
 use Rattle.drafts.specs.declared.call.Call.{Call}
 use Rattle.drafts.specs.declared.call.Call.the-variants.{Rule as RuleCall}

@@ -7,7 +7,7 @@ use lib.Dec.{leb}
 use lib.ListN.{length}
 use Rattle.std.specs.declared.result.Result.{Result}
 use Rattle.std.specs.declared.result.Result.the-variants.{Ok, Err}
-use Rattle.codec.specs.Splice.{splice}
+use Rattle.reading.specs.Splice.{splice}
 use Rattle.drafts.specs.Sheet.{Sheet}
 use Rattle.drafts.specs.Questions.{State}
 use Rattle.faults.specs.declared.StoreFault.{StoreFault}

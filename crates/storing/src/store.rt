@@ -7,7 +7,7 @@ ghost use Rattle.std.specs.Finite.{nth};
 ghost use Rattle.std.specs.Options.{Cases};
 ghost use Rattle.std.specs.Vec.{made};
 ghost use Rattle.std.specs.declared.option.Option.the-variants.{None};
-ghost use Rattle.codec.specs.Splice.{Written};
+ghost use Rattle.reading.specs.Splice.{Written};
 ghost use Rattle.drafts.specs.Sheet.{blank};
 ghost use Rattle.drafts.specs.Held.{held};
 ghost use Rattle.drafts.specs.Questions.{at};
@@ -16,14 +16,14 @@ ghost use Rattle.loading.specs.Spell.{spell};
 ghost use Rattle.loading.specs.Load.{loading};
 ghost use Rattle.loading.specs.Spell.{stored};
 ghost use Rattle.storing.specs.Store.{storing, LoadsAs};
-use faults::StoreFault;
 use codec::coded::Coded;
-use codec::put::put;
 use drafts::call::Call;
 use drafts::call::Right;
 use drafts::call::Rule;
 use drafts::call::RuleForm;
 use drafts::draft::Draft;
+use faults::StoreFault;
+use reading::put::put;
 
 // A rule as it is handed in.
 fn form(rule: Rule) -> RuleForm

@@ -1,5 +1,5 @@
 use lib.ListN.{length}
-use Rattle.codec.specs.Left.{left}
+use Rattle.reading.specs.Left.{left}
 use Rattle.drafts.specs.Held.{held}
 use Rattle.drafts.specs.Questions.{at}
 use Rattle.loading.proofs.Turns.{Keeps}

@@ -1,4 +1,4 @@
-use Rattle.codec.specs.Left.{left}
+use Rattle.reading.specs.Left.{left}
 use Rattle.codec.specs.Look.{done}
 use Rattle.codec.specs.Coded.{pair-with}
 use Rattle.codec.proofs.Pairs.{read-then, read-done, spelled-then}

@@ -1,8 +1,8 @@
 use native.Mathlib.Omega.{arith}
 use Prim.Native.Nat.{_+_, _≤_}
 use lib.ListN.{length}
-use Rattle.codec.specs.Splice.{Wrote}
-use Rattle.codec.proofs.Puts.{then-wrote, full-more}
+use Rattle.reading.specs.Splice.{Wrote}
+use Rattle.reading.proofs.Puts.{then-wrote, full-more}
 use Rattle.codec.proofs.Codes.{code, reads-back}
 use Rattle.codec.proofs.Pairs.{pair-code}
 use Rattle.codec.proofs.pair.PairCoded.write.Needs as need

@@ -1,6 +1,6 @@
 use mathlib.Core.List.{_++_}
 use Rattle.std.proofs.shelf.Results.{made-from-err}
-use Rattle.codec.specs.Left.{left}
+use Rattle.reading.specs.Left.{left}
 use Rattle.codec.specs.Look.{done}
 use Rattle.codec.specs.Coded.{with-one, with-two, with-three}
 use Rattle.codec.proofs.Pairs.{read-then, read-stop, read-fault, read-done, spelled-then}

@@ -2,8 +2,8 @@ use mathlib.Core.List.{_++_}
 use native.Mathlib.Omega.{arith}
 use Prim.Native.Nat.{_+_, _≤_}
 use lib.ListN.{length}
-use Rattle.codec.specs.Splice.{Wrote}
-use Rattle.codec.proofs.Puts.{then-written, then-wrote, room-after, never-full, full-more}
+use Rattle.reading.specs.Splice.{Wrote}
+use Rattle.reading.proofs.Puts.{then-written, then-wrote, room-after, never-full, full-more}
 use Rattle.codec.proofs.Codes.{code, reads-back}
 use Rattle.codec.proofs.Pairs.{square-code, length-then}
 use Rattle.codec.proofs.square.SquareCoded.write.Needs as need

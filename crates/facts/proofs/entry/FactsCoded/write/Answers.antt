@@ -1,7 +1,7 @@
 use mathlib.Core.Path.{sym, ap, _∙_}
 use mathlib.Core.List.{_∷_, _++_}
-use Rattle.codec.specs.Splice.{Wrote}
-use Rattle.codec.proofs.Puts.{wrote-as}
+use Rattle.reading.specs.Splice.{Wrote}
+use Rattle.reading.proofs.Puts.{wrote-as}
 use Rattle.codec.proofs.Codes.{reads-back}
 use Rattle.codec.proofs.Leaves.{firsts}
 use Rattle.facts.proofs.Entries.{facts-code, none-body, body-none, written-sets}

@@ -1,7 +1,7 @@
 use mathlib.Core.List.{_∷_}
 use native.Mathlib.Omega.{arith}
-use Rattle.codec.specs.Splice.{Wrote}
-use Rattle.codec.proofs.Puts.{wrote-as}
+use Rattle.reading.specs.Splice.{Wrote}
+use Rattle.reading.proofs.Puts.{wrote-as}
 use Rattle.codec.proofs.Codes.{reads-back}
 use Rattle.codec.proofs.Leaves.{firsts}
 use Rattle.lengths.proofs.Entries.{length-code, written-length}

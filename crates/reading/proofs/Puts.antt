@@ -8,7 +8,7 @@ use Rattle.std.proofs.shelf.Lists.{drop-drop, take-at, drop-at, length-take-le}
 use Rattle.std.specs.declared.option.Option.{Option}
 use Rattle.std.specs.declared.option.Option.the-variants.{Some, None}
 use borrow.Rule.Slice.PartMut.{putMid}
-use Rattle.codec.specs.Splice.{splice, Full, Written, Wrote}
+use Rattle.reading.specs.Splice.{splice, Full, Written, Wrote}
 
 -- a part of the buffer that is written over
 pub put-is : (at end : ℕ) (out bs part : List ℕ) → end ≡ at + length bs → end ≤ length out → part ≡ bs

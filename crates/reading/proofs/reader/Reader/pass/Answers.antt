@@ -1,8 +1,8 @@
 use mathlib.Core.Path.{refl}
 use native.Mathlib.Omega.{arith}
-use Rattle.codec.proofs.Passing.{is-passable, too-small, too-few, stays, goes-on, length-left}
-use Rattle.codec.proofs.reader.Reader.pass.Needs as need
-use Rattle.codec.proofs.reader.Reader.pass.Needs.{then-n-lt2·by·then-n-lt2, then-n-lt2·by·else-n-lt2·then-self-n}
+use Rattle.reading.proofs.Passing.{is-passable, too-small, too-few, stays, goes-on, length-left}
+use Rattle.reading.proofs.reader.Reader.pass.Needs as need
+use Rattle.reading.proofs.reader.Reader.pass.Needs.{then-n-lt2·by·then-n-lt2, then-n-lt2·by·else-n-lt2·then-self-n}
 
 pub returns-then-n-lt2 : need.returns-then-n-lt2
 returns-then-n-lt2 c =

@@ -1,6 +1,6 @@
 //! What can be wrong with an entry.
 ghost use mathlib.Core.Path.{_≡_};
-ghost use Rattle.codec.specs.Faults.{fault-number};
+ghost use Rattle.reading.specs.Faults.{fault-number};
 
 #[derive(Clone, Copy, Drop)]
 pub enum EntryFault {

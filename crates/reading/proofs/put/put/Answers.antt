@@ -1,6 +1,6 @@
 use native.Mathlib.Omega.{arith}
-use Rattle.codec.proofs.Puts.{put-is}
-use Rattle.codec.proofs.put.put.Needs as need
+use Rattle.reading.proofs.Puts.{put-is}
+use Rattle.reading.proofs.put.put.Needs as need
 
 pub returns : need.returns
 returns c =

@@ -1,6 +1,6 @@
 //! How a reader begins, what it has before it, and how it goes on.
 ghost use mathlib.Core.Path.{_≡_};
-ghost use Rattle.codec.specs.Left.{left, At, Passes};
+ghost use Rattle.reading.specs.Left.{left, At, Passes};
 use super::Reader;
 
 impl<'a> Reader<'a> {

@@ -8,8 +8,8 @@ use lib.ListN.{length, drop, length-drop}
 use borrow.Author.Tests.{le-leb, lt-leb}
 use Rattle.std.proofs.shelf.Tests.{and-from, and-left, and-right}
 use Rattle.std.proofs.shelf.Lists.{drop-drop}
-use Rattle.codec.specs.declared.reader.Reader.{Reader}
-use Rattle.codec.specs.Left.{left, At, passable, Passes}
+use Rattle.reading.specs.declared.reader.Reader.{Reader}
+use Rattle.reading.specs.Left.{left, At, passable, Passes}
 
 pub length-left : (r : Reader) → length (left r) ≡ length (r .input .now) - r .at
 length-left r = length-drop (r .at) (r .input .now)

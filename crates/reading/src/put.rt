@@ -1,6 +1,6 @@
 //! Bytes into a lent buffer.
 ghost use lib.ListN.{length};
-ghost use Rattle.codec.specs.Splice.{Wrote};
+ghost use Rattle.reading.specs.Splice.{Wrote};
 
 // Writes the bytes over those from `at` on, and says where they end. It writes nothing if they have no room.
 pub fn put(out: &mut [u8], at: usize, bytes: &[u8]) -> Option<usize>

@@ -1,7 +1,7 @@
 -- The numbers of the faults.
 use Prim.Native.Nat.{ℕ}
-use Rattle.codec.specs.declared.fault.EntryFault.{EntryFault}
-use Rattle.codec.specs.declared.fault.EntryFault.the-variants.{Unknown, Cut, Due, NoValue}
+use Rattle.reading.specs.declared.fault.EntryFault.{EntryFault}
+use Rattle.reading.specs.declared.fault.EntryFault.the-variants.{Unknown, Cut, Due, NoValue}
 
 abbrev pub fault-number : EntryFault → ℕ
 fault-number Unknown = 22
