@@ -1,3 +1,3 @@
 mod Entries
-mod Pairs
+pub mod Pairs
 mod Rows

@@ -1,9 +1,11 @@
-use mathlib.Core.Path.{_∙_}
+use mathlib.Core.Path.{ap, _∙_}
 use native.Mathlib.Omega.{arith}
 use borrow.Author.Needs.{needs}
 use Rattle.worked.proofs.Cases.{one-way}
-use Rattle.worked.proofs.Numbers.{relation-number}
+use Rattle.relations.proofs.Pairs.{pairs-same}
 use Rattle.worked.proofs.one_way.Needs as need
 
 pub returns : need.returns
-returns c = relation-number (c .extend .result .0) 0x08 (search needs) (omega arith) (c .extend .ensures .means ∙ one-way)
+returns c =
+    let same = c .extend .ensures .means ∙ one-way in
+    pairs-same (c .extend .result .0) 0x08 (search needs) (omega arith) (λ i j. ap (λ f. f i j) same)
