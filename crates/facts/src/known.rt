@@ -10,7 +10,7 @@ use crate::weight::Facts;
 
 // A set of facts that are made, and one of facts that are unmade.
 #[derive(Clone, Copy)]
-pub struct Known {
+pub(crate) struct Known {
     made: u16,
     unmade: u16,
     ghost apart: { bitAnd made unmade ≡ 0 },
@@ -18,7 +18,7 @@ pub struct Known {
 
 impl Known {
     // The value with these sets, or `None` where a fact is in both.
-    pub fn of(made: u16, unmade: u16) -> Option<Known>
+    pub(crate) fn of(made: u16, unmade: u16) -> Option<Known>
         ensures { λ r. ⌜ BySome r (disjoint made unmade ≡ false) (λ k. (disjoint made unmade ≡ true) × (k .made ≡ made) × (k .unmade ≡ unmade)) ⌝ }
     {
         if made & unmade == 0 {
@@ -28,20 +28,20 @@ impl Known {
         }
     }
 
-    pub fn made(self) -> u16
+    pub(crate) fn made(self) -> u16
         ensures { λ r. ⌜ r ≡ self .made ⌝ }
     {
         self.made
     }
 
-    pub fn unmade(self) -> u16
+    pub(crate) fn unmade(self) -> u16
         ensures { λ r. ⌜ r ≡ self .unmade ⌝ }
     {
         self.unmade
     }
 
     // What either run does: it makes what one of them makes, and unmakes only what both unmake.
-    pub fn combine(self, other: Known) -> Known
+    pub(crate) fn combine(self, other: Known) -> Known
         ensures made { λ r. ⌜ r .made ≡ union (self .made) (other .made) ⌝ }
         ensures unmade { λ r. ⌜ r .unmade ≡ intersection (self .unmade) (other .unmade) ⌝ }
         ensures each { λ r. ⌜ ((k : Fact) → effects (r .made) (r .unmade) k ≡ either (effects (self .made) (self .unmade) k) (effects (other .made) (other .unmade) k)) ⌝ }
@@ -53,7 +53,7 @@ impl Known {
     }
 
     // What one run after the other does: the second has the last word on each fact that it does not keep.
-    pub fn extend(self, other: Known) -> Known
+    pub(crate) fn extend(self, other: Known) -> Known
         ensures made { λ r. ⌜ r .made ≡ union (other .made) (difference (self .made) (other .unmade)) ⌝ }
         ensures unmade { λ r. ⌜ r .unmade ≡ union (other .unmade) (difference (self .unmade) (other .made)) ⌝ }
         ensures each { λ r. ⌜ ((k : Fact) → effects (r .made) (r .unmade) k ≡ later (effects (self .made) (self .unmade) k) (effects (other .made) (other .unmade) k)) ⌝ }
@@ -65,7 +65,7 @@ impl Known {
     }
 
     // The record that stores the value.
-    pub fn record(self) -> Facts
+    pub(crate) fn record(self) -> Facts
         ensures { λ r. ⌜ r ≡ sets (self .made) (self .unmade) ⌝ }
     {
         Facts {

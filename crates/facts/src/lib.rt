@@ -1,4 +1,4 @@
 //! Facts: which of sixteen facts a run makes and unmakes.
 pub mod entry;
-pub mod known;
+mod known;
 pub mod weight;

@@ -24,7 +24,7 @@ const NOTHING: Facts = Facts {
 
 impl Facts {
     // The known value, unless the record means none.
-    pub fn known(self) -> Option<Known>
+    pub(crate) fn known(self) -> Option<Known>
         ensures { λ r. ⌜ BySome r (is-known self ≡ false) (λ k. (is-known self ≡ true) × (k .made ≡ self .made) × (k .unmade ≡ self .unmade)) ⌝ }
     {
         if self.none {

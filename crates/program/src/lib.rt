@@ -1,4 +1,3 @@
-//! The work of the program `weigh-length`: from the bytes of its input to a report, and the report's lines.
-pub mod lines;
+//! The work of the program `weigh-length`: from the bytes of its input to a report.
 pub mod report;
 pub mod run;

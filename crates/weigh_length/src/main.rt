@@ -2,7 +2,8 @@
 use lengths::entry::LengthCoded;
 use lengths::weight::Length;
 use lengths::weight::LengthWeight;
-use program::lines::ReportDisplay;
+use lines::Lines;
+use lines::LinesDisplay;
 use program::run::run;
 use std::error::AnyError;
 use std::io::Read;
@@ -15,6 +16,7 @@ fn main(rt: LibcRuntime) -> Result<(), AnyError> {
     let mut input = Vec::new(heap);
     rt.stdin().take(ENOUGH).read_to_end(&mut input)?;
     let report = run::<Length>(heap, input.as_slice())?;
-    print!(rt, "{report}")?;
+    let lines = Lines(&report);
+    print!(rt, "{lines}")?;
     Ok(())
 }

@@ -1,12 +1,12 @@
 //! The lines of a report, each with its end.
-use crate::report::Loaded;
-use crate::report::Report;
 use drafts::call::Arrow;
 use drafts::call::Counts;
 use drafts::call::Right;
 use drafts::call::Rule;
 use faults::LoadFaultDisplay;
 use lengths::weight::Length;
+use program::report::Loaded;
+use program::report::Report;
 use std::fmt;
 
 fn counts<W: fmt::Write>(counts: Option<Counts>, f: &mut fmt::Formatter<W>) -> fmt::Result {
@@ -79,9 +79,13 @@ fn sheet<W: fmt::Write>(loaded: &Loaded<Length>, f: &mut fmt::Formatter<W>) -> f
     finals(loaded.draft.finals(), f)
 }
 
-pub impl fmt::Display for Report<Length> as ReportDisplay {
+// A report as text.
+#[derive(Drop)]
+pub struct Lines<'a>(pub &'a Report<Length>);
+
+pub impl fmt::Display for Lines<'_> as LinesDisplay {
     fn fmt<W: fmt::Write>(&self, f: &mut fmt::Formatter<W>) -> fmt::Result {
-        match self {
+        match self.0 {
             Report::TooLong => writeln!(f, "input too long"),
             Report::Refused(fault) => writeln!(f, "{fault}"),
             Report::Loaded(loaded) => sheet(loaded, f),
