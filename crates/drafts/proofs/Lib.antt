@@ -1,3 +1,2 @@
 pub mod Fits
-pub mod Steps
 pub mod Replays

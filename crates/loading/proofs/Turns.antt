@@ -23,11 +23,11 @@ use Rattle.drafts.specs.Calls.{bound, replay, InOrder}
 use Rattle.faults.specs.declared.Spot.{Spot}
 use Rattle.faults.specs.declared.LoadFault.{LoadFault}
 use Rattle.faults.specs.Faults.{of-entry, of-sheet}
-use Rattle.loading.specs.Spell.{look-call, spell, spells}
+use Rattle.calls.specs.Spell.{look-call, spell, spells}
 use Rattle.loading.specs.Load.{ends, spot-at, spot-of, beyond, Placed, Parsed, stopped, after, placed, read-on, parse, parsed, calls-at, calls-in, Loaded, made-on, run, finish, loading, made-at, read-made, Called, Failed}
-use Rattle.loading.specs.Spell.{stored}
+use Rattle.calls.specs.Spell.{stored}
 use Rattle.drafts.proofs.Replays.{replayed-again}
-use Rattle.loading.proofs.Spelling.{spell-some, spells-push, same-ok, never-ok, replay-push}
+use Rattle.calls.proofs.Spelling.{spell-some, spells-push, same-ok, never-ok, replay-push}
 
 no-fault : {A B E : Type 0} {e : E} {t : A} → _≡_ {A = Result A E} (Err e) (Ok t) → B
 no-fault q = let z : _≡_ {A = ℕ} 0 1 = cc in absurd (omega arith)

@@ -1,2 +1,1 @@
-pub mod Spell
 pub mod Load

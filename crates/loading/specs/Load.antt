@@ -20,7 +20,7 @@ use Rattle.drafts.specs.Questions.{State, step}
 use Rattle.faults.specs.declared.Spot.{Spot}
 use Rattle.faults.specs.declared.LoadFault.{LoadFault}
 use Rattle.faults.specs.Faults.{of-entry, of-sheet}
-use Rattle.loading.specs.Spell.{look-call, spell}
+use Rattle.calls.specs.Spell.{look-call, spell}
 
 -- a load ends with the bytes, or before an entry of kind 5
 abbrev pub ends : List ℕ → Bool

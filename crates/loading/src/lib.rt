@@ -1,3 +1,2 @@
 //! Sheets read from entries.
-pub mod call;
 pub mod load;

@@ -10,8 +10,9 @@ ghost use Rattle.drafts.specs.Held.{held};
 ghost use Rattle.drafts.specs.Questions.{at};
 ghost use Rattle.drafts.specs.Calls.{InOrder};
 ghost use Rattle.loading.specs.Load.{ends, spot-of, loading, calls-in, Called, Failed};
-ghost use Rattle.loading.specs.Spell.{stored};
-use crate::call::read_call;
+ghost use Rattle.calls.specs.Spell.{stored};
+use calls::make::make;
+use calls::read::read_call;
 use codec::coded::Coded;
 use drafts::draft::Draft;
 use faults::FromEntry;
@@ -54,7 +55,7 @@ fn load_call<W: Coded>(
         Ok(call) => call,
         Err(fault) => return Err(LoadFault::from((next_spot(from), fault))),
     };
-    match draft.make(strip, call) {
+    match make(draft, strip, call) {
         Ok(()) => Ok(()),
         Err(fault) => Err(LoadFault::from((spot, fault))),
     }

@@ -35,13 +35,13 @@ use Rattle.drafts.specs.Calls.{bound, replay, form-of, marked, size-calls, rule
 use Rattle.drafts.proofs.Replays.{bound-ok, replays}
 use Rattle.faults.specs.declared.Spot.{Spot}
 use Rattle.faults.specs.declared.LoadFault.{LoadFault}
-use Rattle.loading.specs.Spell.{spell, spells, to-size, to-form, to-arrow-call, to-final, look-entry, look-weight, look-call}
+use Rattle.calls.specs.Spell.{spell, spells, to-size, to-form, to-arrow-call, to-final, look-entry, look-weight, look-call}
 use Rattle.loading.specs.Load.{Placed, Parsed, ends, spot-at, beyond, after, placed, read-on, parse, ended, made-on, run, loading}
 use Rattle.faults.specs.declared.StoreFault.{StoreFault}
 use Rattle.faults.specs.declared.StoreFault.the-variants.{ShortStrip, NoRoom}
-use Rattle.loading.specs.Spell.{stored}
+use Rattle.calls.specs.Spell.{stored}
 use Rattle.storing.specs.Store.{refused, put-in, storing, LoadsAs}
-use Rattle.loading.proofs.Spelling.{spells-long, same-ok, never-ok}
+use Rattle.calls.proofs.Spelling.{spells-long, same-ok, never-ok}
 use Rattle.loading.proofs.Turns.{parse-on}
 
 -- a call with the meaning of its weight

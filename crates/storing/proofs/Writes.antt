@@ -14,8 +14,8 @@ use Rattle.reading.proofs.Puts.{splice-more, then-wrote}
 use Rattle.drafts.specs.declared.call.RuleForm.{RuleForm}
 use Rattle.drafts.specs.declared.call.Call.{Call}
 use Rattle.drafts.specs.declared.call.Call.the-variants.{Rule as RuleCall}
-use Rattle.loading.specs.Spell.{spell, spells}
-use Rattle.loading.proofs.Spelling.{spell-some, spells-push, spells-join}
+use Rattle.calls.specs.Spell.{spell, spells}
+use Rattle.calls.proofs.Spelling.{spell-some, spells-push, spells-join}
 use Rattle.storing.proofs.Nths.{nth-below, nth-none, nth-take}
 
 module _ {W : Type 0} (bytes : W → List ℕ) (cs : List (Call W)) where

@@ -12,7 +12,7 @@ use Rattle.drafts.specs.Sheet.{Sheet}
 use Rattle.drafts.specs.Questions.{State}
 use Rattle.faults.specs.declared.StoreFault.{StoreFault}
 use Rattle.faults.specs.declared.StoreFault.the-variants.{ShortStrip, NoRoom}
-use Rattle.loading.specs.Spell.{stored}
+use Rattle.calls.specs.Spell.{stored}
 use Rattle.loading.specs.Load.{Loaded}
 
 -- what a store answers, and the buffer that it leaves

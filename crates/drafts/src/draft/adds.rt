@@ -7,10 +7,9 @@ ghost use Rattle.std.specs.Vec.{made};
 ghost use Rattle.std.specs.Of.Vec.{vec-items};
 ghost use Rattle.drafts.specs.Sheet.{blank, has, right-of, controls, symbols, states, every, symbols-of};
 ghost use Rattle.drafts.specs.Held.{held};
-ghost use Rattle.drafts.specs.Questions.{Took, size-step, rule-step, arrow-step, final-step, step, at};
+ghost use Rattle.drafts.specs.Questions.{Took, size-step, rule-step, arrow-step, final-step, at};
 use super::Draft;
 use crate::call::Arrow;
-use crate::call::Call;
 use crate::call::Counts;
 use crate::call::Right;
 use crate::call::Rule;
@@ -179,20 +178,5 @@ impl Draft {
         }
         self.finals[place] = true;
         Ok(())
-    }
-
-    // Makes a call.
-    pub fn make<W: Copy>(&mut self, strip: &mut [W], call: Call<W>) -> Result<(), SheetFault>
-        ensures { λ r. ⌜ Took (step call (at (held (now (self .entry))) (now (strip .entry)))) tt (at (held (now (self .entry))) (now (strip .entry))) (at (held (now (self .exit))) (now (strip .exit))) r ⌝ }
-    {
-        match call {
-            Call::Size(counts) => self.size(counts),
-            Call::Rule(form, weight) => {
-                self.rule(strip, form, weight)?;
-                Ok(())
-            }
-            Call::Arrow(arrow) => self.arrow(arrow),
-            Call::Final(state) => self.mark_final(state),
-        }
     }
 }

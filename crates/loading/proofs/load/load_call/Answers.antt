@@ -11,4 +11,4 @@ returns-in-Err g c =
 pub returns-in-Err-make : need.returns-in-Err-make
 returns-in-Err-make g c =
     not-taken (g .W·Coded .look) (c .args .from .now) (c .read-call .last .from) (at (held (c .args .draft .now)) (c .args .strip .now)) (c .from-in-Err-make .result) (c .in-Ok .call)
-    (at (held (c .make .last .self)) (c .make .last .strip)) (c .in-Err-make .fault) _ (c .in-Ok .ensures tt .reads) (c .in-Err-make .ensures tt) (c .next-spot-spot .ensures) (c .from-in-Err-make .ensures)
+    (at (held (c .make .last .draft)) (c .make .last .strip)) (c .in-Err-make .fault) _ (c .in-Ok .ensures tt .reads) (c .in-Err-make .ensures tt) (c .next-spot-spot .ensures) (c .from-in-Err-make .ensures)

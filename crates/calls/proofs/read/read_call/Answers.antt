@@ -2,8 +2,8 @@ use Prim.Native.Nat.{_<_}
 use lib.ListN.{length, getD}
 use borrow.Author.Needs.{needs}
 use Rattle.std.proofs.shelf.Results.{err-from-errBy}
-use Rattle.loading.proofs.OneCall.{unknown-read, size-read, arrow-read, final-read, rule-read, weight-fault}
-use Rattle.loading.proofs.call.read_call.Needs as need
+use Rattle.calls.proofs.OneCall.{unknown-read, size-read, arrow-read, final-read, rule-read, weight-fault}
+use Rattle.calls.proofs.read.read_call.Needs as need
 
 pub returns-in-Break-weight : need.returns-in-Break-weight
 returns-in-Break-weight g c =

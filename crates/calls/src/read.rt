@@ -4,7 +4,7 @@ ghost use mathlib.Core.List.{_++_};
 ghost use Rattle.std.specs.Vec.{made};
 ghost use Rattle.reading.specs.Left.{left};
 ghost use Rattle.codec.specs.Coded.{Read};
-ghost use Rattle.loading.specs.Spell.{look-call, spell};
+ghost use Rattle.calls.specs.Spell.{look-call, spell};
 use codec::coded::Coded;
 use drafts::call::Arrow;
 use drafts::call::Call;

@@ -11,7 +11,7 @@ use Rattle.drafts.specs.declared.call.Call.{Call}
 use Rattle.drafts.specs.declared.call.Call.the-variants.{Size, Rule as RuleCall, Arrow as ArrowCall, Final}
 use Rattle.drafts.specs.Questions.{State, step}
 use Rattle.drafts.specs.Calls.{bound, replay}
-use Rattle.loading.specs.Spell.{spell, spells}
+use Rattle.calls.specs.Spell.{spell, spells}
 
 module _ {W : Type 0} (bytes : W → List ℕ) where
   pub spell-some : (c : Call W) → 0 < length (spell bytes c)

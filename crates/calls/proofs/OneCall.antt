@@ -21,7 +21,7 @@ use Rattle.codec.proofs.Leaves.{firsts, read-missed, leaf-read, leaf-spelled}
 use Rattle.drafts.specs.declared.call.Counts.{Counts}
 use Rattle.drafts.specs.declared.call.Call.{Call}
 use Rattle.drafts.specs.declared.call.Call.the-variants.{Size, Rule as RuleCall}
-use Rattle.loading.specs.Spell.{spell, to-counts, to-form, look-entry, to-size, to-arrow-call, to-final, look-weight, look-rule, look-kind, look-call}
+use Rattle.calls.specs.Spell.{spell, to-counts, to-form, look-entry, to-size, to-arrow-call, to-final, look-weight, look-rule, look-kind, look-call}
 
 same-look : {W : Type 0} (f h : List ℕ → Look W) (before behind : Reader) {r : Result W EntryFault} → f (left before) ≡ h (left before) → Read f before behind r → Read h before behind r
 same-look f h before behind e p = record {
