@@ -8,6 +8,8 @@
 //! A one-valued algebra keeps every clause of the interface, so each function here has a clause of its own as
 //! well, which says in numbers what it answers. A clause of its own stands beside the interface's clause,
 //! repeated here as `means`.
+#![tactic(auto)]
+
 ghost use Rattle.std.specs.Prelude.{◌≡◌, min, max, Decides};
 ghost use Rattle.bottleneck.specs.Widths.{widths, width, widest};
 

@@ -1,3 +1,5 @@
 //! Calls: made on a draft, and read from entries.
+#![tactic(auto)]
+
 pub mod make;
 pub mod read;

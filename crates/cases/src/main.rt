@@ -2,6 +2,8 @@
 //! numbers, for every kind of weight. A line names the kind, the cells of the strip, how many of them are lent to the
 //! store, the bytes of the buffer and the input in hexadecimal; a line that begins with '#' is repeated. In the place of
 //! a kind, `program` has the work of `weigh-length` done on the input, repeated as often as the first number says.
+#![tactic(auto)]
+
 use codec::coded::Coded;
 use drafts::draft::Draft;
 use facts::weight::Facts;

@@ -1,4 +1,6 @@
 //! Weights as entries: a byte of kind, then a body whose length the kind fixes.
+#![tactic(auto)]
+
 pub mod coded;
 pub mod pair;
 pub mod square;

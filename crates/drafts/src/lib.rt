@@ -1,2 +1,4 @@
 //! Drafts: sheets that are being written.
+#![tactic(auto)]
+
 pub mod draft;

@@ -1,3 +1,5 @@
 //! Facts: which of sixteen facts a run makes and unmakes.
+#![tactic(auto)]
+
 pub mod entry;
 pub mod weight;

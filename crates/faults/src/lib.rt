@@ -1,4 +1,6 @@
 //! Why a load or a store is refused.
+#![tactic(auto)]
+
 ghost use Rattle.std.specs.Prelude.{◌≡◌};
 ghost use Rattle.faults.specs.Faults.{of_entry, of_sheet, layer_of, lower_number, store_number};
 

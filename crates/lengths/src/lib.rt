@@ -1,3 +1,5 @@
 //! Lengths: what the shortest run costs.
+#![tactic(auto)]
+
 pub mod entry;
 pub mod weight;

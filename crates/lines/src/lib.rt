@@ -1,4 +1,6 @@
 //! The lines of a report, each with its end.
+#![tactic(auto)]
+
 use lengths::weight::Length;
 use program::report::{Loaded, Report};
 use sheets::call::{Arrow, Counts, Right, Rule};

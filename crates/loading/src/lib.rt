@@ -1,2 +1,4 @@
 //! Sheets read from entries.
+#![tactic(auto)]
+
 pub mod load;

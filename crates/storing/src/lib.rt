@@ -1,2 +1,4 @@
 //! Sheets written as entries.
+#![tactic(auto)]
+
 pub mod store;

@@ -1,4 +1,6 @@
 //! `weigh-length` reads a sheet's entries from standard input and prints what it read, or where and why it was refused.
+#![tactic(auto)]
+
 use lengths::weight::Length;
 use lines::Lines;
 use program::run::run;

@@ -1,2 +1,4 @@
 //! Weights: the interface that every kind of weight keeps.
+#![tactic(auto)]
+
 pub mod weight;

@@ -2,6 +2,8 @@
 //!
 //! The interface of weights leaves room for a kind with one value and constant answers. No such kind could
 //! stand in for the ones that are called here.
+#![tactic(auto)]
+
 ghost use Rattle.std.specs.Prelude.{true, false, ◌≡◌, min};
 ghost use Rattle.effects.specs.Facts.{facts};
 ghost use Rattle.facts.specs.Stored.{value_of};
