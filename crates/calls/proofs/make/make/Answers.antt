@@ -19,4 +19,4 @@ pub returns-in-Final : goal.returns-in-Final
 returns-in-Final g c =
     let s = held c.args.draft.now in
     took_call c.args.call _ (at s c.args.strip.now) _ _ c.in-Final.is
-    (took_onto c.args.strip.now (final_step s c.in-Final.state) s (held c.mark-final.new.self) c.mark-final.result c.mark-final.ensures)
+    (took_onto c.args.strip.now (final_step s c.in-Final.state) s (held c.mark_final.new.self) c.mark_final.result c.mark_final.ensures)

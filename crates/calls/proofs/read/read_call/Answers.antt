@@ -3,19 +3,19 @@ use Rattle.std.proofs.lemmas.Result.{err_from_is_err_and}
 use Rattle.calls.proofs.OneCall.{unknown_read, size_read, arrow_read, final_read, rule_read, weight_fault}
 use Rattle.calls.proofs.read.read_call.Goals as goal
 
-pub returns-in-err-weight : goal.returns-in-err-weight
-returns-in-err-weight g c =
-    let p = err_from_is_err_and c.from-residual.result c.from-residual.ensures.1 in
+pub returns-in_err-weight : goal.returns-in_err-weight
+returns-in_err-weight g c =
+    let p = err_from_is_err_and c.from_residual.result c.from_residual.ensures.1 in
     rw (p.1, p.2) (record {
-      reads = weight_fault g.W.Coded.look g.W.Coded.bytes c.rest.result.now c.args.from.now c.pass.new.self c.pass.result c.read.new.from _ c.in-err-weight.ensures.reads
+      reads = weight_fault g.W.Coded.look g.W.Coded.bytes c.rest.result.now c.args.from.now c.pass.new.self c.pass.result c.read.new.from _ c.in_err-weight.ensures.reads
           (record { is = c.rest.ensures; some = search rules; long = search rules; kind = search rules; passes = c.pass.ensures });
       spelled = tt;
     })
 
-pub returns-in-ok-weight : goal.returns-in-ok-weight
-returns-in-ok-weight g c =
-    let p = rule_read g.W.Coded.look g.W.Coded.bytes c.rest.result.now c.args.from.now c.pass.new.self c.pass.result c.read.new.from c.in-ok-weight.weight
-    c.in-ok-weight.ensures.reads c.in-ok-weight.ensures.spelled
+pub returns-in_ok-weight : goal.returns-in_ok-weight
+returns-in_ok-weight g c =
+    let p = rule_read g.W.Coded.look g.W.Coded.bytes c.rest.result.now c.args.from.now c.pass.new.self c.pass.result c.read.new.from c.in_ok-weight.weight
+    c.in_ok-weight.ensures.reads c.in_ok-weight.ensures.spelled
     (record { is = c.rest.ensures; some = search rules; long = search rules; kind = search rules; passes = c.pass.ensures }) in
     record { reads = p.reads; spelled = p.spelled }
 
@@ -37,7 +37,7 @@ returns-in-4 g c =
     (record { is = c.rest.ensures; some = search rules; long = search rules; kind = search rules; passes = c.pass-in-4.ensures }) in
     record { reads = p.reads; spelled = p.spelled }
 
-pub returns-in-default : goal.returns-in-default
-returns-in-default g c =
+pub returns-in_default : goal.returns-in_default
+returns-in_default g c =
     let h : 0 < length c.rest.result.now → 0 < get_or c.rest.result.now 0 0 → 4 < get_or c.rest.result.now 0 0 = λ p q. search rules in
     record { reads = unknown_read g.W.Coded.look c.args.from.now c.rest.result.now c.rest.ensures h; spelled = tt }

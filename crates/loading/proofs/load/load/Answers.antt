@@ -12,22 +12,22 @@ loop-draft-init g c =
 
 pub loop-draft-preserved : goal.loop-draft-preserved
 loop-draft-preserved g c =
-    (turn g.W.Coded.look g.W.Coded.bytes c.args.bytes.now (at (held c.args.draft.now) c.args.strip.now) c.loop-draft.reader c.load-call.new.from
-    (at (held c.loop-draft.draft) c.loop-draft.strip) (at (held c.load-call.new.draft) c.load-call.new.strip)
-    c.loop-draft.invariant (not-true _ (sym c.loop-draft-test.ensures)) c.in-ok-load-call.ensures).keeps
+    (turn g.W.Coded.look g.W.Coded.bytes c.args.bytes.now (at (held c.args.draft.now) c.args.strip.now) c.loop-draft.reader c.load_call.new.from
+    (at (held c.loop-draft.draft) c.loop-draft.strip) (at (held c.load_call.new.draft) c.load_call.new.strip)
+    c.loop-draft.invariant (not-true _ (sym c.loop-draft-test.ensures)) c.in_ok-load_call.ensures).keeps
 
 pub loop-draft-smaller : goal.loop-draft-smaller
 loop-draft-smaller g c =
-    (turn g.W.Coded.look g.W.Coded.bytes c.args.bytes.now (at (held c.args.draft.now) c.args.strip.now) c.loop-draft.reader c.load-call.new.from
-    (at (held c.loop-draft.draft) c.loop-draft.strip) (at (held c.load-call.new.draft) c.load-call.new.strip)
-    c.loop-draft.invariant (not-true _ (sym c.loop-draft-test.ensures)) c.in-ok-load-call.ensures).less
+    (turn g.W.Coded.look g.W.Coded.bytes c.args.bytes.now (at (held c.args.draft.now) c.args.strip.now) c.loop-draft.reader c.load_call.new.from
+    (at (held c.loop-draft.draft) c.loop-draft.strip) (at (held c.load_call.new.draft) c.load_call.new.strip)
+    c.loop-draft.invariant (not-true _ (sym c.loop-draft-test.ensures)) c.in_ok-load_call.ensures).less
 
-pub returns-in-err-load-call : goal.returns-in-err-load-call
-returns-in-err-load-call g c =
-    let p = err_from_is_err_and c.from-residual.result c.from-residual.ensures.1 in
+pub returns-in_err-load_call : goal.returns-in_err-load_call
+returns-in_err-load_call g c =
+    let p = err_from_is_err_and c.from_residual.result c.from_residual.ensures.1 in
     let k = at_fault g.W.Coded.look g.W.Coded.bytes c.args.bytes.now (held c.args.draft.now) c.args.strip.now c.loop-draft.reader
-    (at (held c.loop-draft.draft) c.loop-draft.strip) (at (held c.load-call.new.draft) c.load-call.new.strip) c.in-err-load-call.field-0.0
-    c.loop-draft.invariant (not-true _ (sym c.loop-draft-test.ensures)) c.in-err-load-call.ensures in
+    (at (held c.loop-draft.draft) c.loop-draft.strip) (at (held c.load_call.new.draft) c.load_call.new.strip) c.in_err-load_call.field-0.0
+    c.loop-draft.invariant (not-true _ (sym c.loop-draft-test.ensures)) c.in_err-load_call.ensures in
     rw (p.1, p.2) (record { state = k.state; answer = k.answer; again = k.again })
 
 pub returns : goal.returns

@@ -5,21 +5,21 @@ use Rattle.drafts.specs.Held.{held}
 use Rattle.program.proofs.Outcomes.{is_long, is_loaded, is_refused}
 use Rattle.program.proofs.run.run.Goals as goal
 
-pub returns-then-input-gt-LONGEST-INPUT : goal.returns-then-input-gt-LONGEST-INPUT
-returns-then-input-gt-LONGEST-INPUT g c =
+pub returns-then-input-gt-LONGEST_INPUT : goal.returns-then-input-gt-LONGEST_INPUT
+returns-then-input-gt-LONGEST_INPUT g c =
     let cell = c.zero-cell.result in
-    (cell, c.zero-cell.ensures, is_long g.W.Coded.look cell c.args.input.now c.if-input-gt-LONGEST-INPUT.true)
+    (cell, c.zero-cell.ensures, is_long g.W.Coded.look cell c.args.input.now c.if-input-gt-LONGEST_INPUT.true)
 
 pub returns-in-Ok : goal.returns-in-Ok
 returns-in-Ok g c =
     let cell = c.zero-cell.result in
-    let strip = c.in-ok-strip.strip in
+    let strip = c.in_ok-strip.strip in
     let last = c.load.new.strip in
-    let whole = with_items_is strip last (c.load.auto.strip ∙ c.as-mut-slice.ensures.len) in (
+    let whole = with_items_is strip last (c.load.auto.strip ∙ c.as_mut_slice.ensures.len) in (
       cell,
       c.zero-cell.ensures,
-      is_loaded g.W.Coded.look cell c.args.input.now c.if-input-gt-LONGEST-INPUT.false (held c.in-ok-draft.draft) _ c.in-ok-draft.ensures
-          (c.as-mut-slice.ensures.value ∙ c.in-ok-strip.ensures)
+      is_loaded g.W.Coded.look cell c.args.input.now c.if-input-gt-LONGEST_INPUT.false (held c.in_ok-draft.draft) _ c.in_ok-draft.ensures
+          (c.as_mut_slice.ensures.value ∙ c.in_ok-strip.ensures)
           _ c.in-Ok.field-0 (ap (at (held c.load.new.draft)) whole ∙ c.in-Ok.ensures.state) c.in-Ok.ensures.answer,
     )
 
@@ -28,7 +28,7 @@ returns-in-Err g c =
     let cell = c.zero-cell.result in (
       cell,
       c.zero-cell.ensures,
-      is_refused g.W.Coded.look cell c.args.input.now c.if-input-gt-LONGEST-INPUT.false (held c.in-ok-draft.draft) _ c.in-ok-draft.ensures
-          (c.as-mut-slice.ensures.value ∙ c.in-ok-strip.ensures)
+      is_refused g.W.Coded.look cell c.args.input.now c.if-input-gt-LONGEST_INPUT.false (held c.in_ok-draft.draft) _ c.in_ok-draft.ensures
+          (c.as_mut_slice.ensures.value ∙ c.in_ok-strip.ensures)
           _ c.in-Err.fault c.in-Err.ensures.state c.in-Err.ensures.answer,
     )

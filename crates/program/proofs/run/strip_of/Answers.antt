@@ -5,7 +5,7 @@ use Rattle.program.proofs.run.strip_of.Goals as goal
 pub loop-preserved : goal.loop-preserved
 loop-preserved g c =
     let cell = c.args.cell in
-    c.in-ok-push.ensures.items ∙ ap (λ l. l ++ cell ∷ []) c.loop.invariant ∙ replicate_more c.loop.counter cell
+    c.in_ok-push.ensures.items ∙ ap (λ l. l ++ cell ∷ []) c.loop.invariant ∙ replicate_more c.loop.counter cell
 
 pub returns : goal.returns
 returns g c =

@@ -4,5 +4,5 @@ use Rattle.reading.proofs.put.put.Goals as goal
 
 pub returns : goal.returns
 returns c =
-    put_is c.args.at c.in-ok-end.end c.args.out.now c.args.bytes.now c.copy-from-slice.new.self
-    (omega (arith, c.in-ok-end.ensures)) (omega arith) c.copy-from-slice.ensures.after
+    put_is c.args.at c.in_ok-end.end c.args.out.now c.args.bytes.now c.copy_from_slice.new.self
+    (omega (arith, c.in_ok-end.ensures)) (omega arith) c.copy_from_slice.ensures.after

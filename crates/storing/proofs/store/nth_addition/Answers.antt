@@ -16,15 +16,15 @@ returns-then-arrow-arrows g c =
     at_arrow s.rules s.arrows (marked 0 s.finals) c.args.strip.now c.requires c.rules-rules.result.now c.arrows-arrows.result.now c.rules-rules.ensures c.arrows-arrows.ensures
     c.args.n _ c.if-n-rules.false c.if-arrow-arrows.true
 
-pub returns-in-err-state : goal.returns-in-err-state
-returns-in-err-state g c =
+pub returns-in_err-state : goal.returns-in_err-state
+returns-in_err-state g c =
     let s = held c.args.draft.now in
-    c.from-residual.ensures
+    c.from_residual.ensures
     ∙ at_final s.rules s.arrows (marked 0 s.finals) c.args.strip.now c.requires c.rules-rules.result.now c.arrows-arrows.result.now c.rules-rules.ensures c.arrows-arrows.ensures
-    c.args.n (marked 0 c.finals.result.now) None (ap (marked 0) c.finals.ensures) c.if-n-rules.false c.if-arrow-arrows.false c.in-err-state.ensures
+    c.args.n (marked 0 c.finals.result.now) None (ap (marked 0) c.finals.ensures) c.if-n-rules.false c.if-arrow-arrows.false c.in_err-state.ensures
 
 pub returns : goal.returns
 returns g c =
     let s = held c.args.draft.now in
     at_final s.rules s.arrows (marked 0 s.finals) c.args.strip.now c.requires c.rules-rules.result.now c.arrows-arrows.result.now c.rules-rules.ensures c.arrows-arrows.ensures
-    c.args.n (marked 0 c.finals.result.now) (Some c.in-ok-state.state) (ap (marked 0) c.finals.ensures) c.if-n-rules.false c.if-arrow-arrows.false c.in-ok-state.ensures
+    c.args.n (marked 0 c.finals.result.now) (Some c.in_ok-state.state) (ap (marked 0) c.finals.ensures) c.if-n-rules.false c.if-arrow-arrows.false c.in_ok-state.ensures

@@ -9,5 +9,5 @@ returns g c =
     let k = code g.W.Coded.look g.W.Weight.meaning g.W.Coded.bytes g.W.Coded.width g.met.W.Coded.wide g.met.W.Coded.back in
     let d = c.args.draft.now in
     let enough : length (held d).rules ≤ length c.args.strip.now = omega (arith, ap length c.rules.ensures, c.if-strip-rules.false) in
-    let p = stores k d c.args.strip.now c.args.out.now c.write-all.new.out enough c.write-all.result c.ok-or.result c.ok-or.ensures.value c.write-all.ensures in
+    let p = stores k d c.args.strip.now c.args.out.now c.write_all.new.out enough c.write_all.result c.ok_or.result c.ok_or.ensures.value c.write_all.ensures in
     record { answer = p.answer; buffer = p.buffer; back = p.back }

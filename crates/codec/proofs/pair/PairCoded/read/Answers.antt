@@ -8,13 +8,13 @@ pub returns : goal.returns
 returns g c =
     let f = g.A.Coded.look in
     let h = g.B.Coded.look in
-    let x = c.in-ok-first.first in
-    let y = c.in-ok-second.second in
+    let x = c.in_ok-first.first in
+    let y = c.in_ok-second.second in
     let before = c.args.from.now in
     let mid = c.read.new.from in
     let after = c.read-2.new.from in
-    let p = c.in-ok-first.ensures in
-    let q = c.in-ok-second.ensures in
+    let p = c.in_ok-first.ensures in
+    let q = c.in_ok-second.ensures in
     record {
       reads = read_then f (pair_with h) before mid after p.reads
           (read_then h (λ y. done (record { first = x; second = y })) mid after after q.reads (read_done _ after));

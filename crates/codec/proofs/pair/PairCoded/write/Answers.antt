@@ -14,12 +14,12 @@ returns g c =
     let out = c.args.out.now in
     let after = c.write-2.new.out in
     let end = c.write-2.result in
-    let room : at + (a.width + b.width) ≤ length out = omega (arith, c.in-ok-fits.ensures, c.in-ok-checked-sub.ensures) in
+    let room : at + (a.width + b.width) ≤ length out = omega (arith, c.in_ok-fits.ensures, c.in_ok-checked_sub.ensures) in
     let wrote : Wrote at (a.width + b.width) ((pair_code a b).bytes x) out after end =
-    then_wrote at a.width b.width c.in-ok-middle.middle (a.bytes x.first) out c.write.new.out
-    c.in-ok-middle.ensures.wrote (a.wide x.first) (b.bytes x.second) after end room c.write-2.ensures.wrote in
+    then_wrote at a.width b.width c.in_ok-middle.middle (a.bytes x.first) out c.write.new.out
+    c.in_ok-middle.ensures.wrote (a.wide x.first) (b.bytes x.second) after end room c.write-2.ensures.wrote in
     record { wrote = wrote; back = reads_back (pair_code a b) x at out after end wrote }
 
-pub returns-in-err-middle : goal.returns-in-err-middle
-returns-in-err-middle g c =
-    rw c.from-residual-in-err-middle.ensures (record { wrote = full_more c.args.at g.A.Coded.width g.B.Coded.width c.args.out.now c.write.new.out c.in-err-middle.ensures.wrote; back = tt })
+pub returns-in_err-middle : goal.returns-in_err-middle
+returns-in_err-middle g c =
+    rw c.from_residual-in_err-middle.ensures (record { wrote = full_more c.args.at g.A.Coded.width g.B.Coded.width c.args.out.now c.write.new.out c.in_err-middle.ensures.wrote; back = tt })

@@ -2,11 +2,11 @@ use Rattle.std.proofs.Common.{refl, rules}
 use Rattle.effects.proofs.Effects.{effects_either, combine_apart}
 use Rattle.effects.proofs.known.Known.combine.Goals as goal
 
-pub invariant-of-result : goal.invariant-of-result
-invariant-of-result c =
+pub invariant_of-result : goal.invariant_of-result
+invariant_of-result c =
     let a = c.args.self in
     let b = c.args.other in
-    (combine_apart a.made a.unmade b.made b.unmade (search rules) a.apart b.apart, tt)
+    record { apart = combine_apart a.made a.unmade b.made b.unmade (search rules) a.apart b.apart }
 
 pub returns : goal.returns
 returns c =

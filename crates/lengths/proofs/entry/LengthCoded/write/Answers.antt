@@ -13,7 +13,7 @@ returns c =
     let out = c.args.out.now in
     let after = c.put.new.out in
     let r = c.put.result in
-    let bs = c.to-be-bytes.result in
+    let bs = c.to_be_bytes.result in
     let wrote : Wrote at 3 (length_code.bytes x) out after r =
-    wrote_as at 3 (17 ∷ firsts 0 2 bs) (length_code.bytes x) out after r (written_length x.0 bs (omega arith) c.to-be-bytes.ensures) c.put.ensures in
+    wrote_as at 3 (17 ∷ firsts 0 2 bs) (length_code.bytes x) out after r (written_length x.0 bs (omega arith) c.to_be_bytes.ensures) c.put.ensures in
     record { wrote = wrote; back = reads_back length_code x at out after r wrote }

@@ -7,5 +7,5 @@ pub returns : goal.returns
 returns c =
     let a = c.args.self.0 in
     let b = c.args.other.0 in
-    let value : c.saturating-add.result ≡ summed a b = omega arith in
-    record { means = extend_means c.saturating-add.result a b value; value = value }
+    let value : c.saturating_add.result ≡ summed a b = omega arith in
+    record { means = extend_means c.saturating_add.result a b value; value = value }
