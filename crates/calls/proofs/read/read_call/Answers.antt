@@ -3,19 +3,19 @@ use Rattle.std.proofs.lemmas.Result.{err_from_is_err_and}
 use Rattle.calls.proofs.OneCall.{unknown_read, size_read, arrow_read, final_read, rule_read, weight_fault}
 use Rattle.calls.proofs.read.read_call.Goals as goal
 
-pub returns-in_err-weight : goal.returns-in_err-weight
-returns-in_err-weight g c =
+pub returns-in_err-weight-in-2 : goal.returns-in_err-weight-in-2
+returns-in_err-weight-in-2 g c =
     let p = err_from_is_err_and c.from_residual.result c.from_residual.ensures.1 in
     rw (p.1, p.2) (record {
-      reads = weight_fault g.W.Coded.look g.W.Coded.bytes c.rest.result.now c.args.from.now c.pass.new.self c.pass.result c.read.new.from _ c.in_err-weight.ensures.reads
+      reads = weight_fault g.W.Coded.look g.W.Coded.bytes c.rest.result.now c.args.from.now c.pass.new.self c.pass.result c.read.new.from _ c.in_err-weight-in-2.ensures.reads
           (record { is = c.rest.ensures; some = search rules; long = search rules; kind = search rules; passes = c.pass.ensures });
       spelled = tt;
     })
 
-pub returns-in_ok-weight : goal.returns-in_ok-weight
-returns-in_ok-weight g c =
-    let p = rule_read g.W.Coded.look g.W.Coded.bytes c.rest.result.now c.args.from.now c.pass.new.self c.pass.result c.read.new.from c.in_ok-weight.weight
-    c.in_ok-weight.ensures.reads c.in_ok-weight.ensures.spelled
+pub returns-in_ok-weight-in-2 : goal.returns-in_ok-weight-in-2
+returns-in_ok-weight-in-2 g c =
+    let p = rule_read g.W.Coded.look g.W.Coded.bytes c.rest.result.now c.args.from.now c.pass.new.self c.pass.result c.read.new.from c.in_ok-weight-in-2.weight
+    c.in_ok-weight-in-2.ensures.reads c.in_ok-weight-in-2.ensures.spelled
     (record { is = c.rest.ensures; some = search rules; long = search rules; kind = search rules; passes = c.pass.ensures }) in
     record { reads = p.reads; spelled = p.spelled }
 
