@@ -1,6 +1,5 @@
 -- A draft's sheet is made again by its own calls, and calls in stored order are the calls of what they make.
-use Rattle.std.proofs.Common.{◌≡◌, ℕ, zero, suc, ◌+◌, ◌-◌, ◌<◌, ◌≤◌, Bool, true, false, cond, not, ◌&&◌, ◌||◌, eqb, ltb, leb, List, [], ◌∷◌, ◌++◌, map, length, get_or, take, drop, set, replicate, is_some, Some, None, Ok, Err, Option, Result, sym, refl, ap, ◌∙◌, subst, append_assoc, append-nil, add-zero, arith, length-append, length-set}
-use lib.ListN.{length-map}
+use Rattle.std.proofs.Common.{◌≡◌, ℕ, zero, suc, ◌+◌, ◌-◌, ◌<◌, ◌≤◌, Bool, true, false, cond, not, ◌&&◌, eqb, ltb, leb, List, [], ◌∷◌, ◌++◌, map, length, get_or, take, drop, set, replicate, Some, None, Ok, Err, Option, Result, sym, refl, ap, ◌∙◌, subst, append_assoc, append-nil, add-zero, arith, length-set}
 use Rattle.std.proofs.lemmas.Bool.{eqb-true, leb-true, and_parts, and_from, ltb-true, lt-ltb, not-true, not_from_false, false≢true}
 use Rattle.std.proofs.lemmas.List.{take_more_set, drop-set-lt, length_push, take-append-drop, get_or_at, set_at, drop-drop}
 use Rattle.sheets.specs.declared.call.Counts.{Counts}
@@ -13,9 +12,9 @@ use Rattle.sheets.specs.declared.call.Call.{Call}
 use Rattle.sheets.specs.declared.call.Call.TheVariants.{Size, Rule as RuleCall, Arrow as ArrowCall, Final}
 use Rattle.drafts.specs.declared.draft.Draft.{Draft}
 use Rattle.sheets.specs.declared.fault.SheetFault.{SheetFault}
-use Rattle.sheets.specs.declared.fault.SheetFault.TheVariants.{Sized, Controls, Symbols, States, RightSide, NoControl, NoSymbol, NoRuleRoom, NoState, IntoControl, NotNew, NoArrowRoom}
+use Rattle.sheets.specs.declared.fault.SheetFault.TheVariants.{Controls, Symbols, States, NoControl, NoSymbol, NoRuleRoom, NoState, IntoControl, NotNew, NoArrowRoom}
 use Rattle.sheets.specs.Sheet.{Sheet, blank, controls, symbols, states, every, few_controls, few_symbols, few_states, counts_fit, right_of, rule_controls, rule_symbols, rule_fits, arrow_states, arrow_fits, has, new_after}
-use Rattle.sheets.specs.Questions.{State, at, asked, step, onto, size_step, arrow_step, final_step, shaped_step, rule_step, rule_from, with_counts, with_rule, with_arrow, with_final}
+use Rattle.sheets.specs.Questions.{State, at, asked, step, onto, size_step, arrow_step, final_step, shaped_step, rule_from, with_counts, with_rule, with_arrow, with_final}
 use Rattle.sheets.specs.Calls.{bound, replay, right_length, right_first, right_second, form_of, marked, size_calls, rule_calls, listed, calls_of, Rising, InOrder, laid}
 use Rattle.drafts.specs.Held.{held}
 use Rattle.sheets.proofs.Fits.{every_drop}

@@ -1,12 +1,12 @@
 -- Which outcome an input has.
-use Rattle.std.proofs.Common.{◌≡◌, ℕ, ◌<◌, ◌≤◌, Bool, true, false, cond, leb, List, length, replicate, Ok, Err, Result, sym, ap, ◌∙◌}
+use Rattle.std.proofs.Common.{◌≡◌, ℕ, ◌<◌, ◌≤◌, cond, List, length, replicate, Ok, Err, Result, sym, ap, ◌∙◌}
 use Rattle.std.proofs.lemmas.Bool.{le-leb, lt-leb}
 use Rattle.codec.specs.Look.{Look}
 use Rattle.sheets.specs.Sheet.{Sheet, blank}
 use Rattle.sheets.specs.Questions.{State, at}
 use Rattle.faults.specs.declared.LoadFault.{LoadFault}
 use Rattle.loading.specs.Load.{loading}
-use Rattle.program.specs.Outcome.{Outcome, too_long, refused, loaded, found, outcome}
+use Rattle.program.specs.Outcome.{too_long, refused, loaded, found, outcome}
 
 module _ {W : Type 0} (look : List ℕ → Look W) (cell : W) (input : List ℕ) where
   pub is_long : 16384 < length input → too_long ≡ outcome look cell input

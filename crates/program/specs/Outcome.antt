@@ -5,7 +5,7 @@ use Rattle.sheets.specs.Sheet.{blank}
 use Rattle.sheets.specs.Questions.{State, at}
 use Rattle.drafts.specs.Held.{held}
 use Rattle.faults.specs.declared.LoadFault.{LoadFault}
-use Rattle.loading.specs.Load.{Loaded, loading}
+use Rattle.loading.specs.Load.{loading}
 use Rattle.program.specs.declared.report.Report.{Report}
 use Rattle.program.specs.declared.report.Report.TheVariants.{TooLong, Refused, Loaded as Whole}
 

@@ -1,6 +1,6 @@
 -- What fits goes on to fit when something is added.
-use Rattle.std.proofs.Common.{◌≡◌, ℕ, zero, suc, ◌+◌, ◌<◌, ◌≤◌, Bool, true, false, not, ◌&&◌, ◌||◌, eqb, ltb, leb, List, [], ◌∷◌, ◌++◌, length, get_or, drop, set, is_some, Some, None, Option, sym, refl, ap, ◌∙◌, append_assoc, append-nil, arith}
-use Rattle.std.proofs.lemmas.Bool.{true≢false, lt-ltb, le-leb, and_parts, and_from, ltb-true, not_from_false, or_left, or_right, eq-eqb}
+use Rattle.std.proofs.Common.{◌≡◌, ℕ, zero, suc, ◌+◌, ◌<◌, ◌≤◌, Bool, true, false, not, ◌&&◌, ◌||◌, ltb, leb, List, [], ◌∷◌, ◌++◌, length, get_or, drop, set, is_some, Some, None, Option, sym, refl, ap, ◌∙◌, append_assoc, append-nil, arith}
+use Rattle.std.proofs.lemmas.Bool.{true≢false, lt-ltb, le-leb, and_parts, and_from, ltb-true, not_from_false, or_left}
 use Rattle.std.proofs.lemmas.List.{drop_more, drop-set-lt, drop_all}
 use Rattle.sheets.specs.declared.call.Counts.{Counts}
 use Rattle.sheets.specs.declared.call.Rule.{Rule}

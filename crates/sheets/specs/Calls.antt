@@ -1,5 +1,5 @@
 -- Calls in a row, and the calls that make a sheet again.
-use Rattle.std.specs.Prelude.{◌≡◌, ℕ, ◌+◌, ◌≤◌, Bool, true, false, List, [], ◌∷◌, ◌++◌, map, length, take, drop, Some, None, Ok, Err, Option, Result}
+use Rattle.std.specs.Prelude.{◌≡◌, ℕ, ◌+◌, ◌≤◌, Bool, true, false, List, [], ◌∷◌, ◌++◌, map, length, drop, Some, None, Ok, Err, Option, Result}
 use Rattle.sheets.specs.declared.call.Counts.{Counts}
 use Rattle.sheets.specs.declared.call.Right.{Right}
 use Rattle.sheets.specs.declared.call.Right.TheVariants.{Pop, Swap, Push}

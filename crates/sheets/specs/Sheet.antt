@@ -4,7 +4,6 @@ use Rattle.sheets.specs.declared.call.Counts.{Counts}
 use Rattle.sheets.specs.declared.call.Right.{Right}
 use Rattle.sheets.specs.declared.call.Right.TheVariants.{Pop, Swap, Push}
 use Rattle.sheets.specs.declared.call.Rule.{Rule}
-use Rattle.sheets.specs.declared.call.RuleForm.{RuleForm}
 use Rattle.sheets.specs.declared.call.Arrow.{Arrow}
 
 -- finals has a flag for each state number that there can be

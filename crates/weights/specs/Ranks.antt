@@ -1,5 +1,5 @@
 -- What the falling rank says of a combine that changes nothing.
-use Rattle.std.specs.Prelude.{◌≡◌, ◌≤◌, ◌≢◌}
+use Rattle.std.specs.Prelude.{◌≤◌, ◌≢◌}
 use Rattle.std.proofs.Common.{ap, arith}
 use Rattle.std.proofs.Math.Decide.{dec_le}
 use Rattle.weights.specs.Semiring.{Semiring}

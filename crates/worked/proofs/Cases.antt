@@ -2,12 +2,12 @@
 use mathlib.Core.Path.{◌≡◌, refl, ap}
 use mathlib.Core.Bool.{Bool}
 use mathlib.Core.List.{List, [], ◌∷◌}
-use mathlib.Core.Logic.{◌⊎◌, inl, inr}
+use mathlib.Core.Logic.{inl, inr}
 use Prim.Native.Nat.{ℕ, zero, suc}
 use native.Mathlib.Omega.{arith}
 use Rattle.bits.specs.Upto.{Upto}
 use Rattle.relations.specs.Relations.{Flag, relations, compose, absent, pairs}
-use Rattle.lengths.specs.Lengths.{lengths, capped, capped_is}
+use Rattle.lengths.specs.Lengths.{lengths, capped_is}
 use Rattle.effects.specs.Facts.{Fact, Effect, known, known_is, facts}
 use Rattle.worked.specs.Cases.{WorkedCases}
 

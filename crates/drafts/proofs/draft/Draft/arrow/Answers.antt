@@ -17,9 +17,9 @@ invariant_of-self c =
       rules_few = t.rules_few;
       rules_room = t.rules_room;
       arrows_fit = arrow_pushed t.counts n.controls n.symbols n.states xs _ a p.items e.controls e.symbols e.states c.if-not-arrow-counts.false
-    (omega (arith, c.if-from-counts.false, c.from.ensures)) c.if-arrow-counts.false t.arrows_fit;
+          (omega (arith, c.if-from-counts.false, c.from.ensures)) c.if-arrow-counts.false t.arrows_fit;
       arrows_new = arrow_new t.counts n.controls n.symbols n.states xs _ a p.items t.arrows_new
-    (ap (λ l. has l a) (sym c.as_slice.ensures.value) ∙ sym c.is_among.ensures ∙ c.if-is_among.false);
+          (ap (λ l. has l a) (sym c.as_slice.ensures.value) ∙ sym c.is_among.ensures ∙ c.if-is_among.false);
       arrows_few = omega (arith, p.len, c.len.ensures, c.if-len-ge-MOST_ARROWS.false);
       arrows_room = omega (arith, p.capacity, t.arrows_room);
       finals_all = t.finals_all;

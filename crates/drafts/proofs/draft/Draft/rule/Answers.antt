@@ -13,7 +13,7 @@ invariant_of-self g c =
     record {
       limits = t.limits;
       rules_fit = rule_pushed t.counts n.controls n.symbols (vec_items t.rules) _ _ p.items e.controls e.symbols c.if-not-form-counts.false
-    (sym c.symbols_below.ensures ∙ c.if-not-symbols_below.false) t.rules_fit;
+          (sym c.symbols_below.ensures ∙ c.if-not-symbols_below.false) t.rules_fit;
       rules_few = omega (arith, p.len, c.len-number.ensures, room);
       rules_room = omega (arith, p.capacity, t.rules_room);
       arrows_fit = t.arrows_fit;
