@@ -3,6 +3,7 @@
 
 usage: python3 tools/respell.py [--look]     at the top of the repository, once, after the kit's own script; --look only lists
 
+Names that an import gives (`as`) and those that a proof binds are turned alike.
 Names that the checker makes (goals, invariants and measures in Answers.antt and Invariants.antt) keep their dashes,
 and so does the text of code, of strings and of comments in src/. Two names that would fall together stop it.
 """
@@ -16,8 +17,11 @@ TOP = pathlib.Path(__file__).resolve().parent.parent
 KEPT = {"bit-and", "bit-or"}
 # A fact is spelled as a type.
 FACTS = {"all_small": "AllSmall"}
+# Names that stand in proofs for a fact or a case, and are declared nowhere.
+BOUND = {"beyond-it", "few-arrows", "few-rules", "no-first", "yes-first"}
 MADE = {"Answers.antt", "Invariants.antt", "Proof.antt"}
 DECLARED = re.compile(r"^\s*(?:(?:abbrev|unfoldable|pub|record|data|ruleset)\s+)*([^\s(){}:;,]+)\s+(?::|=)(?=\s)", re.M)
+GIVEN = re.compile(r"\bas ([a-z][\w']*(?:-[\w']+)+)")
 NAME = re.compile(r"[^\s(){}\[\]:;,.λ⌜⌝|]+")
 RT_SKIPPED = re.compile(r'//[^\n]*|"(?:\\.|[^"\\])*"|b?\'(?:\\.|[^\'\\])\'')
 
@@ -27,10 +31,11 @@ def files(*endings):
 
 
 def declared():
-    own, all_names = set(), set()
+    own, all_names = set(BOUND), set()
     for p in files(".antt"):
         names = set(DECLARED.findall(p.read_text())) - {"let"}
         all_names |= names
+        own |= set(GIVEN.findall(p.read_text()))
         if p.name not in MADE:
             own |= {n for n in names if re.fullmatch(r"[a-z][\w']*(?:-[\w']+)+", n)}
     return own, all_names

@@ -97,9 +97,9 @@ pub some_true : (n : ℕ) (f : Upto n → Bool) → some n f ≡ true → (i : U
 some_true zero f e = absurd (false≢true e)
 some_true (suc n) f e =
     elim (test (f (inl tt))) [
-      | inl yes-first ↦ (inl tt, yes-first)
-      | inr no-first ↦
-          let later = some_true n (λ i. f (inr i)) (ap (λ b. b || some n (λ i. f (inr i))) (sym no-first) ∙ e) in
+      | inl yes_first ↦ (inl tt, yes_first)
+      | inr no_first ↦
+          let later = some_true n (λ i. f (inr i)) (ap (λ b. b || some n (λ i. f (inr i))) (sym no_first) ∙ e) in
           (inr later.0, later.1)
     ]
 

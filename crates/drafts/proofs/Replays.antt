@@ -149,8 +149,8 @@ module _ {W : Type 0} where
       let s = held d in
       let finals : List (Call W) = map Final (marked 0 s.finals) in
       let strip = laid (take (length s.rules) ws) t in
-      let few-rules : length s.rules ≤ 512 = omega (arith, d.rules_few, d.rules.ok.0) in
-      let few-arrows : length s.arrows ≤ 128 = omega (arith, d.arrows_few, d.arrows.ok.0) in
+      let few_rules : length s.rules ≤ 512 = omega (arith, d.rules_few, d.rules.ok.0) in
+      let few_arrows : length s.arrows ≤ 128 = omega (arith, d.arrows_few, d.arrows.ok.0) in
       sized_taken s.counts t _ d.limits
       ∙ rules_taken s.counts (replicate 32 false) [] s.rules ws t _ d.rules_fit (omega arith) enough (omega arith)
       ∙ (λ i. replay (map ArrowCall s.arrows ++ finals) (at (sheet_of s.counts s.rules [] (replicate 32 false)) (over_all (take (length s.rules) ws) t i)))

@@ -1,9 +1,9 @@
 -- The faults of a load and of a store, with their numbers.
 use Rattle.std.specs.Prelude.{ℕ}
 use Rattle.reading.specs.declared.fault.EntryFault.{EntryFault}
-use Rattle.reading.specs.Faults.{fault_number as entry-number}
+use Rattle.reading.specs.Faults.{fault_number as entry_number}
 use Rattle.sheets.specs.declared.fault.SheetFault.{SheetFault}
-use Rattle.sheets.specs.Faults.{fault_number as sheet-number}
+use Rattle.sheets.specs.Faults.{fault_number as sheet_number}
 use Rattle.faults.specs.declared.Lower.{Lower}
 use Rattle.faults.specs.declared.Lower.TheVariants.{Entry, Sheet}
 use Rattle.faults.specs.declared.Layer.{Layer}
@@ -26,8 +26,8 @@ layer_of (Entry e) = EntryLayer
 layer_of (Sheet e) = SheetLayer
 
 abbrev pub lower_number : Lower → ℕ
-lower_number (Entry e) = entry-number e
-lower_number (Sheet e) = sheet-number e
+lower_number (Entry e) = entry_number e
+lower_number (Sheet e) = sheet_number e
 
 abbrev pub store_number : StoreFault → ℕ
 store_number ShortStrip = 13

@@ -152,12 +152,12 @@ module _ {W : Type 0} (look : List ℕ → Look W) (by : W → List ℕ) (bytes 
       let more = fewer x.turns (length (left rd)) (some_left (left rd) h) x.enough in
       let less : length (left rd') < length (left rd) = omega (arith, ap length c.spelled, length-append (spell by c.call) (left rd'), spell_some by c.call) in
       let same : rd'.input.now ≡ bytes = r.stands.same ∙ x.same in
-      let beyond-it = stands_beyond look rd rd' (Ok c.call) r in
+      let beyond_it = stands_beyond look rd rd' (Ok c.call) r in
       let one : parse look x.turns (spot_of rd) (left rd) ≡ after (p ∷ []) (parse look more.0 (spot_of rd') (left rd')) =
       ap (λ n. parse look n (spot_of rd) (left rd)) more.1
       ∙ parse_on look more.0 (spot_of rd) (left rd) h
       ∙ ap (read_on (spot_of rd) (beyond (spot_of rd) (left rd) k) (parse look more.0 (beyond (spot_of rd) (left rd) k) k.left)) (sym r.says)
-      ∙ (λ i. after (p ∷ []) (parse look more.0 (sym beyond-it i) (sym r.rest i))) in
+      ∙ (λ i. after (p ∷ []) (parse look more.0 (sym beyond_it i) (sym r.rest i))) in
       let calls : calls_at (x.before ++ p ∷ []) ≡ calls_at x.before ++ c.call ∷ [] = map_push (λ (q : Placed W). q.call) x.before p in
       let parts : drop rd.at bytes ≡ spell by c.call ++ drop rd'.at bytes =
       ap (drop rd.at) (sym x.same) ∙ c.spelled ∙ ap (λ l. spell by c.call ++ drop rd'.at l) same in
