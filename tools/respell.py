@@ -31,11 +31,12 @@ def files(*endings):
 
 
 def declared():
-    own, all_names = set(BOUND), set()
+    own, all_names = set(), set()
     for p in files(".antt"):
-        names = set(DECLARED.findall(p.read_text())) - {"let"}
+        text = p.read_text()
+        names = set(DECLARED.findall(text)) - {"let"}
         all_names |= names
-        own |= set(GIVEN.findall(p.read_text()))
+        own |= set(GIVEN.findall(text)) | BOUND & set(NAME.findall(text))
         if p.name not in MADE:
             own |= {n for n in names if re.fullmatch(r"[a-z][\w']*(?:-[\w']+)+", n)}
     return own, all_names
