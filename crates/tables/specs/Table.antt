@@ -1,10 +1,5 @@
--- What a table holds.
-use Rattle.std.specs.Prelude.{ℕ, cond, List, [], ◌∷◌, ◌++◌, length, take, nat_lt}
-use Rattle.tables.specs.declared.table.Table.{Table}
-
--- the items, in the order in which they came
-abbrev pub entries : {T : Type 0} {n : ℕ} → Table T n → List T
-entries t = take t.count t.cells
+-- What a push leaves in a table.
+use Rattle.std.specs.Prelude.{ℕ, cond, List, [], ◌∷◌, ◌++◌, length, nat_lt}
 
 -- one item more at the end, if there are fewer than n
 abbrev pub with_last : {T : Type 0} → ℕ → List T → T → List T
