@@ -4,21 +4,23 @@ ghost use Rattle.pairs.specs.Pairs.{pair, both};
 
 use weights::weight::Weight;
 
-#[derive(Clone, Copy)]
+// Without `==`: pairs that are stored otherwise may mean one value, which `same` says.
+#[derive(Debug, Clone, Copy)]
 pub struct Pair<A, B> {
     pub first: A,
     pub second: B,
 }
 
+// Each function has the interface's clause, `means`, and says what each part holds.
 impl<A: Weight, B: Weight> Weight for Pair<A, B> {
-    ghost algebra = { pair A.Weight.algebra B.Weight.algebra };
+    ghost algebra = { pair A.algebra B.algebra };
 
-    ghost meaning = { λ x. both (A.Weight.meaning x.first) (B.Weight.meaning x.second) };
+    ghost meaning = { λ x. both (A.meaning x.first) (B.meaning x.second) };
 
-    fn zero() -> Pair<A, B>
-        ensures means { both (A.Weight.meaning result.first) (B.Weight.meaning result.second) ≡ (pair A.Weight.algebra B.Weight.algebra).zero }
-        ensures first { A.Weight.meaning result.first ≡ A.Weight.algebra.zero }
-        ensures second { B.Weight.meaning result.second ≡ B.Weight.algebra.zero }
+    fn zero() -> Self
+        ensures means { ⟦<Self as Weight>⟧.meaning result ≡ ⟦<Self as Weight>⟧.algebra.zero }
+        ensures first { A.meaning result.first ≡ A.algebra.zero }
+        ensures second { B.meaning result.second ≡ B.algebra.zero }
     {
         Pair {
             first: A::zero(),
@@ -26,10 +28,10 @@ impl<A: Weight, B: Weight> Weight for Pair<A, B> {
         }
     }
 
-    fn one() -> Pair<A, B>
-        ensures means { both (A.Weight.meaning result.first) (B.Weight.meaning result.second) ≡ (pair A.Weight.algebra B.Weight.algebra).one }
-        ensures first { A.Weight.meaning result.first ≡ A.Weight.algebra.one }
-        ensures second { B.Weight.meaning result.second ≡ B.Weight.algebra.one }
+    fn one() -> Self
+        ensures means { ⟦<Self as Weight>⟧.meaning result ≡ ⟦<Self as Weight>⟧.algebra.one }
+        ensures first { A.meaning result.first ≡ A.algebra.one }
+        ensures second { B.meaning result.second ≡ B.algebra.one }
     {
         Pair {
             first: A::one(),
@@ -37,10 +39,10 @@ impl<A: Weight, B: Weight> Weight for Pair<A, B> {
         }
     }
 
-    fn combine(self, other: Pair<A, B>) -> Pair<A, B>
-        ensures means { both (A.Weight.meaning result.first) (B.Weight.meaning result.second) ≡ (pair A.Weight.algebra B.Weight.algebra).combine (both (A.Weight.meaning self.first) (B.Weight.meaning self.second)) (both (A.Weight.meaning other.first) (B.Weight.meaning other.second)) }
-        ensures first { A.Weight.meaning result.first ≡ A.Weight.algebra.combine (A.Weight.meaning self.first) (A.Weight.meaning other.first) }
-        ensures second { B.Weight.meaning result.second ≡ B.Weight.algebra.combine (B.Weight.meaning self.second) (B.Weight.meaning other.second) }
+    fn combine(self, other: Self) -> Self
+        ensures means { ⟦<Self as Weight>⟧.meaning result ≡ ⟦<Self as Weight>⟧.algebra.combine (⟦<Self as Weight>⟧.meaning self) (⟦<Self as Weight>⟧.meaning other) }
+        ensures first { A.meaning result.first ≡ A.algebra.combine (A.meaning self.first) (A.meaning other.first) }
+        ensures second { B.meaning result.second ≡ B.algebra.combine (B.meaning self.second) (B.meaning other.second) }
     {
         Pair {
             first: self.first.combine(other.first),
@@ -48,10 +50,10 @@ impl<A: Weight, B: Weight> Weight for Pair<A, B> {
         }
     }
 
-    fn extend(self, other: Pair<A, B>) -> Pair<A, B>
-        ensures means { both (A.Weight.meaning result.first) (B.Weight.meaning result.second) ≡ (pair A.Weight.algebra B.Weight.algebra).extend (both (A.Weight.meaning self.first) (B.Weight.meaning self.second)) (both (A.Weight.meaning other.first) (B.Weight.meaning other.second)) }
-        ensures first { A.Weight.meaning result.first ≡ A.Weight.algebra.extend (A.Weight.meaning self.first) (A.Weight.meaning other.first) }
-        ensures second { B.Weight.meaning result.second ≡ B.Weight.algebra.extend (B.Weight.meaning self.second) (B.Weight.meaning other.second) }
+    fn extend(self, other: Self) -> Self
+        ensures means { ⟦<Self as Weight>⟧.meaning result ≡ ⟦<Self as Weight>⟧.algebra.extend (⟦<Self as Weight>⟧.meaning self) (⟦<Self as Weight>⟧.meaning other) }
+        ensures first { A.meaning result.first ≡ A.algebra.extend (A.meaning self.first) (A.meaning other.first) }
+        ensures second { B.meaning result.second ≡ B.algebra.extend (B.meaning self.second) (B.meaning other.second) }
     {
         Pair {
             first: self.first.extend(other.first),
@@ -59,9 +61,9 @@ impl<A: Weight, B: Weight> Weight for Pair<A, B> {
         }
     }
 
-    fn same(self, other: Pair<A, B>) -> bool
-        ensures means { Decides result (both (A.Weight.meaning self.first) (B.Weight.meaning self.second) ≡ both (A.Weight.meaning other.first) (B.Weight.meaning other.second)) }
-        ensures parts { Decides result ((A.Weight.meaning self.first ≡ A.Weight.meaning other.first) × (B.Weight.meaning self.second ≡ B.Weight.meaning other.second)) }
+    fn same(self, other: Self) -> bool
+        ensures means { Decides result (⟦<Self as Weight>⟧.meaning self ≡ ⟦<Self as Weight>⟧.meaning other) }
+        ensures parts { Decides result ((A.meaning self.first ≡ A.meaning other.first) × (B.meaning self.second ≡ B.meaning other.second)) }
     {
         self.first.same(other.first) & self.second.same(other.second)
     }

@@ -1,6 +1,6 @@
 -- The semiring of squares over a semiring, with rows and columns 0 and 1.
 use Rattle.std.specs.Prelude.{◌≡◌, ℕ, ◌+◌, ◌<◌, ◌≢◌}
-use Rattle.std.proofs.Common.{sym, ap, ◌∙◌, arith}
+use Rattle.std.proofs.Common.{◌∙◌, arith}
 use Rattle.std.proofs.Math.Decide.{dec_lt}
 use Rattle.weights.specs.Semiring.{Semiring}
 use Rattle.weights.specs.Ranks.{unchanged, never_rises}
@@ -26,45 +26,34 @@ module _ (S : Semiring) where
   zero_combine a = S.combine_comm S.zero a ∙ S.combine_zero a
 
   pub swap_in : (a b c d : S.Value) → S.combine (S.combine a b) (S.combine c d) ≡ S.combine (S.combine a c) (S.combine b d)
-  swap_in a b c d =
-      S.combine_assoc a b (S.combine c d)
-      ∙ ap (S.combine a) (sym (S.combine_assoc b c d) ∙ ap (λ z. S.combine z d) (S.combine_comm b c) ∙ S.combine_assoc c b d)
-      ∙ sym (S.combine_assoc a c (S.combine b d))
+  swap_in a b c d = grind (arith, S.combine_assoc, S.combine_comm)
 
   pub dot_assoc : (a b x y z w p q : S.Value) → dot S (dot S a b x z) (dot S a b y w) p q ≡ dot S a b (dot S x y p q) (dot S z w p q)
-  dot_assoc a b x y z w p q =
-      (λ i. S.combine (S.combine_extend (S.extend a x) (S.extend b z) p i) (S.combine_extend (S.extend a y) (S.extend b w) q i))
-      ∙ (λ i. S.combine (S.combine (S.extend_assoc a x p i) (S.extend_assoc b z p i)) (S.combine (S.extend_assoc a y q i) (S.extend_assoc b w q i)))
-      ∙ swap_in (S.extend a (S.extend x p)) (S.extend b (S.extend z p)) (S.extend a (S.extend y q)) (S.extend b (S.extend w q))
-      ∙ sym (λ i. S.combine (S.extend_combine a (S.extend x p) (S.extend y q) i) (S.extend_combine b (S.extend z p) (S.extend w q) i))
+  dot_assoc a b x y z w p q = grind (arith, S.combine_extend, S.extend_combine, S.extend_assoc, swap_in)
 
   pub dot_sum : (a b x y x' y' : S.Value) → dot S a b (S.combine x x') (S.combine y y') ≡ S.combine (dot S a b x y) (dot S a b x' y')
-  dot_sum a b x y x' y' =
-      (λ i. S.combine (S.extend_combine a x x' i) (S.extend_combine b y y' i))
-      ∙ swap_in (S.extend a x) (S.extend a x') (S.extend b y) (S.extend b y')
+  dot_sum a b x y x' y' = grind (arith, S.extend_combine, swap_in)
 
   pub sum_dot : (a b a' b' x y : S.Value) → dot S (S.combine a a') (S.combine b b') x y ≡ S.combine (dot S a b x y) (dot S a' b' x y)
-  sum_dot a b a' b' x y =
-      (λ i. S.combine (S.combine_extend a a' x i) (S.combine_extend b b' y i))
-      ∙ swap_in (S.extend a x) (S.extend a' x) (S.extend b y) (S.extend b' y)
+  sum_dot a b a' b' x y = grind (arith, S.combine_extend, swap_in)
 
   pub first_row : (x y : S.Value) → dot S S.one S.zero x y ≡ x
-  first_row x y = (λ i. S.combine (S.one_extend x i) (S.zero_extend y i)) ∙ S.combine_zero x
+  first_row x y = grind (arith, S.one_extend, S.zero_extend, S.combine_zero)
 
   pub second_row : (x y : S.Value) → dot S S.zero S.one x y ≡ y
-  second_row x y = (λ i. S.combine (S.zero_extend x i) (S.one_extend y i)) ∙ zero_combine y
+  second_row x y = grind (arith, S.zero_extend, S.one_extend, zero_combine)
 
   pub first_column : (a b : S.Value) → dot S a b S.one S.zero ≡ a
-  first_column a b = (λ i. S.combine (S.extend_one a i) (S.extend_zero b i)) ∙ S.combine_zero a
+  first_column a b = grind (arith, S.extend_one, S.extend_zero, S.combine_zero)
 
   pub second_column : (a b : S.Value) → dot S a b S.zero S.one ≡ b
-  second_column a b = (λ i. S.combine (S.extend_zero a i) (S.extend_one b i)) ∙ zero_combine b
+  second_column a b = grind (arith, S.extend_zero, S.extend_one, zero_combine)
 
   pub zeros_row : (x y : S.Value) → dot S S.zero S.zero x y ≡ S.zero
-  zeros_row x y = (λ i. S.combine (S.zero_extend x i) (S.zero_extend y i)) ∙ S.combine_zero S.zero
+  zeros_row x y = grind (arith, S.zero_extend, S.combine_zero)
 
   pub zeros_column : (a b : S.Value) → dot S a b S.zero S.zero ≡ S.zero
-  zeros_column a b = (λ i. S.combine (S.extend_zero a i) (S.extend_zero b i)) ∙ S.combine_zero S.zero
+  zeros_column a b = grind (arith, S.extend_zero, S.combine_zero)
 
   abbrev pub square_combine : Quad S.Value → Quad S.Value → Quad S.Value
   square_combine m n =

@@ -5,7 +5,8 @@ ghost use Rattle.squares.specs.Squares.{square, quad, dot};
 use weights::weight::Weight;
 
 // The part at row i and column j is `wij`.
-#[derive(Clone, Copy)]
+// Without `==`: squares that are stored otherwise may mean one value, which `same` says.
+#[derive(Debug, Clone, Copy)]
 pub struct Square<W> {
     pub w00: W,
     pub w01: W,
@@ -13,24 +14,25 @@ pub struct Square<W> {
     pub w11: W,
 }
 
-// The row (a, b) at the column (x, y).
-fn row_at<W: Weight>(a: W, b: W, x: W, y: W) -> W
-    ensures { W.Weight.meaning result ≡ dot W.Weight.algebra (W.Weight.meaning a) (W.Weight.meaning b) (W.Weight.meaning x) (W.Weight.meaning y) }
+// One part of a product: a row of the left square at a column of the right one.
+fn row_at<W: Weight>(row: (W, W), column: (W, W)) -> W
+    ensures { W.meaning result ≡ dot W.algebra (W.meaning row.0) (W.meaning row.1) (W.meaning column.0) (W.meaning column.1) }
 {
-    a.extend(x).combine(b.extend(y))
+    row.0.extend(column.0).combine(row.1.extend(column.1))
 }
 
+// Each function has the interface's clause, `means`, and says what each part holds.
 impl<W: Weight> Weight for Square<W> {
-    ghost algebra = { square W.Weight.algebra };
+    ghost algebra = { square W.algebra };
 
-    ghost meaning = { λ x. quad (W.Weight.meaning x.w00) (W.Weight.meaning x.w01) (W.Weight.meaning x.w10) (W.Weight.meaning x.w11) };
+    ghost meaning = { λ x. quad (W.meaning x.w00) (W.meaning x.w01) (W.meaning x.w10) (W.meaning x.w11) };
 
-    fn zero() -> Square<W>
-        ensures means { quad (W.Weight.meaning result.w00) (W.Weight.meaning result.w01) (W.Weight.meaning result.w10) (W.Weight.meaning result.w11) ≡ (square W.Weight.algebra).zero }
-        ensures w00 { W.Weight.meaning result.w00 ≡ W.Weight.algebra.zero }
-        ensures w01 { W.Weight.meaning result.w01 ≡ W.Weight.algebra.zero }
-        ensures w10 { W.Weight.meaning result.w10 ≡ W.Weight.algebra.zero }
-        ensures w11 { W.Weight.meaning result.w11 ≡ W.Weight.algebra.zero }
+    fn zero() -> Self
+        ensures means { ⟦<Self as Weight>⟧.meaning result ≡ ⟦<Self as Weight>⟧.algebra.zero }
+        ensures w00 { W.meaning result.w00 ≡ W.algebra.zero }
+        ensures w01 { W.meaning result.w01 ≡ W.algebra.zero }
+        ensures w10 { W.meaning result.w10 ≡ W.algebra.zero }
+        ensures w11 { W.meaning result.w11 ≡ W.algebra.zero }
     {
         Square {
             w00: W::zero(),
@@ -40,12 +42,12 @@ impl<W: Weight> Weight for Square<W> {
         }
     }
 
-    fn one() -> Square<W>
-        ensures means { quad (W.Weight.meaning result.w00) (W.Weight.meaning result.w01) (W.Weight.meaning result.w10) (W.Weight.meaning result.w11) ≡ (square W.Weight.algebra).one }
-        ensures w00 { W.Weight.meaning result.w00 ≡ W.Weight.algebra.one }
-        ensures w01 { W.Weight.meaning result.w01 ≡ W.Weight.algebra.zero }
-        ensures w10 { W.Weight.meaning result.w10 ≡ W.Weight.algebra.zero }
-        ensures w11 { W.Weight.meaning result.w11 ≡ W.Weight.algebra.one }
+    fn one() -> Self
+        ensures means { ⟦<Self as Weight>⟧.meaning result ≡ ⟦<Self as Weight>⟧.algebra.one }
+        ensures w00 { W.meaning result.w00 ≡ W.algebra.one }
+        ensures w01 { W.meaning result.w01 ≡ W.algebra.zero }
+        ensures w10 { W.meaning result.w10 ≡ W.algebra.zero }
+        ensures w11 { W.meaning result.w11 ≡ W.algebra.one }
     {
         Square {
             w00: W::one(),
@@ -55,12 +57,12 @@ impl<W: Weight> Weight for Square<W> {
         }
     }
 
-    fn combine(self, other: Square<W>) -> Square<W>
-        ensures means { quad (W.Weight.meaning result.w00) (W.Weight.meaning result.w01) (W.Weight.meaning result.w10) (W.Weight.meaning result.w11) ≡ (square W.Weight.algebra).combine (quad (W.Weight.meaning self.w00) (W.Weight.meaning self.w01) (W.Weight.meaning self.w10) (W.Weight.meaning self.w11)) (quad (W.Weight.meaning other.w00) (W.Weight.meaning other.w01) (W.Weight.meaning other.w10) (W.Weight.meaning other.w11)) }
-        ensures w00 { W.Weight.meaning result.w00 ≡ W.Weight.algebra.combine (W.Weight.meaning self.w00) (W.Weight.meaning other.w00) }
-        ensures w01 { W.Weight.meaning result.w01 ≡ W.Weight.algebra.combine (W.Weight.meaning self.w01) (W.Weight.meaning other.w01) }
-        ensures w10 { W.Weight.meaning result.w10 ≡ W.Weight.algebra.combine (W.Weight.meaning self.w10) (W.Weight.meaning other.w10) }
-        ensures w11 { W.Weight.meaning result.w11 ≡ W.Weight.algebra.combine (W.Weight.meaning self.w11) (W.Weight.meaning other.w11) }
+    fn combine(self, other: Self) -> Self
+        ensures means { ⟦<Self as Weight>⟧.meaning result ≡ ⟦<Self as Weight>⟧.algebra.combine (⟦<Self as Weight>⟧.meaning self) (⟦<Self as Weight>⟧.meaning other) }
+        ensures w00 { W.meaning result.w00 ≡ W.algebra.combine (W.meaning self.w00) (W.meaning other.w00) }
+        ensures w01 { W.meaning result.w01 ≡ W.algebra.combine (W.meaning self.w01) (W.meaning other.w01) }
+        ensures w10 { W.meaning result.w10 ≡ W.algebra.combine (W.meaning self.w10) (W.meaning other.w10) }
+        ensures w11 { W.meaning result.w11 ≡ W.algebra.combine (W.meaning self.w11) (W.meaning other.w11) }
     {
         Square {
             w00: self.w00.combine(other.w00),
@@ -70,24 +72,26 @@ impl<W: Weight> Weight for Square<W> {
         }
     }
 
-    fn extend(self, other: Square<W>) -> Square<W>
-        ensures means { quad (W.Weight.meaning result.w00) (W.Weight.meaning result.w01) (W.Weight.meaning result.w10) (W.Weight.meaning result.w11) ≡ (square W.Weight.algebra).extend (quad (W.Weight.meaning self.w00) (W.Weight.meaning self.w01) (W.Weight.meaning self.w10) (W.Weight.meaning self.w11)) (quad (W.Weight.meaning other.w00) (W.Weight.meaning other.w01) (W.Weight.meaning other.w10) (W.Weight.meaning other.w11)) }
-        ensures w00 { W.Weight.meaning result.w00 ≡ W.Weight.algebra.combine (W.Weight.algebra.extend (W.Weight.meaning self.w00) (W.Weight.meaning other.w00)) (W.Weight.algebra.extend (W.Weight.meaning self.w01) (W.Weight.meaning other.w10)) }
-        ensures w01 { W.Weight.meaning result.w01 ≡ W.Weight.algebra.combine (W.Weight.algebra.extend (W.Weight.meaning self.w00) (W.Weight.meaning other.w01)) (W.Weight.algebra.extend (W.Weight.meaning self.w01) (W.Weight.meaning other.w11)) }
-        ensures w10 { W.Weight.meaning result.w10 ≡ W.Weight.algebra.combine (W.Weight.algebra.extend (W.Weight.meaning self.w10) (W.Weight.meaning other.w00)) (W.Weight.algebra.extend (W.Weight.meaning self.w11) (W.Weight.meaning other.w10)) }
-        ensures w11 { W.Weight.meaning result.w11 ≡ W.Weight.algebra.combine (W.Weight.algebra.extend (W.Weight.meaning self.w10) (W.Weight.meaning other.w01)) (W.Weight.algebra.extend (W.Weight.meaning self.w11) (W.Weight.meaning other.w11)) }
+    fn extend(self, other: Self) -> Self
+        ensures means { ⟦<Self as Weight>⟧.meaning result ≡ ⟦<Self as Weight>⟧.algebra.extend (⟦<Self as Weight>⟧.meaning self) (⟦<Self as Weight>⟧.meaning other) }
+        ensures w00 { W.meaning result.w00 ≡ dot W.algebra (W.meaning self.w00) (W.meaning self.w01) (W.meaning other.w00) (W.meaning other.w10) }
+        ensures w01 { W.meaning result.w01 ≡ dot W.algebra (W.meaning self.w00) (W.meaning self.w01) (W.meaning other.w01) (W.meaning other.w11) }
+        ensures w10 { W.meaning result.w10 ≡ dot W.algebra (W.meaning self.w10) (W.meaning self.w11) (W.meaning other.w00) (W.meaning other.w10) }
+        ensures w11 { W.meaning result.w11 ≡ dot W.algebra (W.meaning self.w10) (W.meaning self.w11) (W.meaning other.w01) (W.meaning other.w11) }
     {
+        let (upper, lower) = ((self.w00, self.w01), (self.w10, self.w11));
+        let (left, right) = ((other.w00, other.w10), (other.w01, other.w11));
         Square {
-            w00: row_at(self.w00, self.w01, other.w00, other.w10),
-            w01: row_at(self.w00, self.w01, other.w01, other.w11),
-            w10: row_at(self.w10, self.w11, other.w00, other.w10),
-            w11: row_at(self.w10, self.w11, other.w01, other.w11),
+            w00: row_at(upper, left),
+            w01: row_at(upper, right),
+            w10: row_at(lower, left),
+            w11: row_at(lower, right),
         }
     }
 
-    fn same(self, other: Square<W>) -> bool
-        ensures means { Decides result (quad (W.Weight.meaning self.w00) (W.Weight.meaning self.w01) (W.Weight.meaning self.w10) (W.Weight.meaning self.w11) ≡ quad (W.Weight.meaning other.w00) (W.Weight.meaning other.w01) (W.Weight.meaning other.w10) (W.Weight.meaning other.w11)) }
-        ensures parts { Decides result ((W.Weight.meaning self.w00 ≡ W.Weight.meaning other.w00) × (W.Weight.meaning self.w01 ≡ W.Weight.meaning other.w01) × (W.Weight.meaning self.w10 ≡ W.Weight.meaning other.w10) × (W.Weight.meaning self.w11 ≡ W.Weight.meaning other.w11)) }
+    fn same(self, other: Self) -> bool
+        ensures means { Decides result (⟦<Self as Weight>⟧.meaning self ≡ ⟦<Self as Weight>⟧.meaning other) }
+        ensures parts { Decides result ((W.meaning self.w00 ≡ W.meaning other.w00) × (W.meaning self.w01 ≡ W.meaning other.w01) × (W.meaning self.w10 ≡ W.meaning other.w10) × (W.meaning self.w11 ≡ W.meaning other.w11)) }
     {
         self.w00.same(other.w00)
             & self.w01.same(other.w01)
