@@ -36,9 +36,8 @@ impl fmt::Display for SheetFault {
             SheetFault::Sized => "the counts are set already",
             SheetFault::Controls => "there must be 1 to 8 controls",
             SheetFault::Symbols => "there must be 1 to 256 symbols",
-            SheetFault::States => "states must be as many as controls or more, and at most 32",
-            SheetFault::RightSide =>
-                "a right side is at most two symbols, with 0 where it has none",
+            SheetFault::States => "there must be no fewer states than controls, and at most 32",
+            SheetFault::RightSide => "a right side has at most two symbols, the unused ones 0",
             SheetFault::NoControl => "no such control",
             SheetFault::NoSymbol => "no such symbol",
             SheetFault::NoRuleRoom => "no place for one more rule, or no strip cell for its weight",
