@@ -1,11 +1,11 @@
 -- What fits goes on to fit when something is added.
-use Rattle.std.proofs.Common.{◌≡◌, ℕ, zero, suc, ◌+◌, ◌<◌, ◌≤◌, Bool, true, false, not, ◌&&◌, ◌||◌, ltb, leb, List, [], ◌∷◌, ◌++◌, length, get_or, drop, set, is_some, Some, None, Option, sym, refl, ap, ◌∙◌, append_assoc, append-nil, arith}
-use Rattle.std.proofs.lemmas.Bool.{true≢false, lt-ltb, le-leb, and_parts, and_from, ltb-true, not_from_false, or_left}
-use Rattle.std.proofs.lemmas.List.{drop_more, drop-set-lt, drop_all}
+use Rattle.std.proofs.Common.{◌≡◌, ℕ, zero, suc, ◌<◌, ◌≤◌, Bool, true, false, not, ◌&&◌, ltb, leb, List, [], ◌∷◌, ◌++◌, drop, set, is_some, Some, None, Option, sym, refl, ap, ◌∙◌, append_assoc, append-nil, arith}
+use Rattle.std.proofs.lemmas.Bool.{true≢false, lt-ltb, le-leb, and_parts, and_from, ltb-true, not_from_false}
+use Rattle.std.proofs.lemmas.List.{drop-set-lt}
 use Rattle.sheets.specs.declared.call.Counts.{Counts}
 use Rattle.sheets.specs.declared.call.Rule.{Rule}
 use Rattle.sheets.specs.declared.call.Arrow.{Arrow}
-use Rattle.sheets.specs.Sheet.{few_controls, few_symbols, few_states, counts_fit, symbols_of, every, controls, symbols, states, rule_controls, rule_symbols, rule_fits, arrow_states, arrow_fits, same_arrow, has, new_after}
+use Rattle.sheets.specs.Sheet.{few_controls, few_symbols, few_states, counts_fit, symbols_of, every, controls, symbols, states, rule_controls, rule_symbols, rule_fits, arrow_states, arrow_fits, has, new_after}
 
 module _ {A : Type 0} where
   pub every_mono : (f g : A → Bool) → ((x : A) → f x ≡ true → g x ≡ true) → (xs : List A) → every f xs ≡ true → every g xs ≡ true
@@ -60,21 +60,6 @@ new_push before (x ∷ xs) a e h =
 
 pub finals_set : (n q : ℕ) (fs : List Bool) → q < n → every not (drop n fs) ≡ true → every not (drop n (set fs q true)) ≡ true
 finals_set n q fs h e = ap (every not) (drop-set-lt n fs q true h) ∙ e
-
--- looking for an arrow
-abbrev pub Seen : List Arrow → Arrow → ℕ → Type 0
-Seen xs a i = has (drop i xs) a ≡ has xs a
-
-pub seen_no : (xs : List Arrow) (a d : Arrow) (i : ℕ) → i < length xs → same_arrow (get_or xs i d) a ≡ false → Seen xs a i → Seen xs a (i + 1)
-seen_no xs a d i h e s =
-    ap (λ b. b || has (drop (i + 1) xs) a) (sym e) ∙ ap (λ l. has l a) (sym (drop_more xs i d h)) ∙ s
-
-pub seen_yes : (xs : List Arrow) (a d : Arrow) (i : ℕ) → i < length xs → same_arrow (get_or xs i d) a ≡ true → Seen xs a i → true ≡ has xs a
-seen_yes xs a d i h e s =
-    sym (or_left (same_arrow (get_or xs i d) a) (has (drop (i + 1) xs) a) e) ∙ ap (λ l. has l a) (sym (drop_more xs i d h)) ∙ s
-
-pub seen_all : (xs : List Arrow) (a : Arrow) (i : ℕ) → length xs ≤ i → Seen xs a i → false ≡ has xs a
-seen_all xs a i h s = ap (λ l. has l a) (sym (drop_all i xs h)) ∙ s
 
 pub none_since : {A : Type 0} (o : Option A) → is_some o ≡ false → o ≡ None
 none_since None e = refl

@@ -1,5 +1,6 @@
 -- What a sheet holds, and what may stand in it.
-use Rattle.std.specs.Prelude.{ℕ, Bool, true, false, cond, not, ◌&&◌, ◌||◌, ltb, List, [], ◌∷◌, ◌++◌, replicate, Some, None, Option, ◌==◌, nat_le, nat_lt}
+use Rattle.std.specs.Prelude.{ℕ, Bool, true, false, cond, not, ◌&&◌, ltb, List, [], ◌∷◌, ◌++◌, replicate, Some, None, Option, ◌==◌, nat_le, nat_lt}
+use Rattle.std.specs.List.{list_any}
 use Rattle.sheets.specs.declared.call.Counts.{Counts}
 use Rattle.sheets.specs.declared.call.Right.{Right}
 use Rattle.sheets.specs.declared.call.Right.TheVariants.{Pop, Swap, Push}
@@ -78,11 +79,10 @@ abbrev pub arrow_fits : Option Counts → Arrow → Bool
 arrow_fits c a = arrow_states c a && (nat_lt a.symbol (symbols c) && nat_le (controls c) a.to)
 
 abbrev pub same_arrow : Arrow → Arrow → Bool
-same_arrow a b = (a.from == b.from && a.symbol == b.symbol) && a.to == b.to
+same_arrow a b = a.from == b.from && (a.symbol == b.symbol && a.to == b.to)
 
 abbrev pub has : List Arrow → Arrow → Bool
-has [] a = false
-has (x ∷ xs) a = same_arrow x a || has xs a
+has xs a = list_any (λ x. same_arrow x a) xs
 
 -- each arrow is another than those before it, which are given
 abbrev pub new_after : List Arrow → List Arrow → Bool

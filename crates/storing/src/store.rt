@@ -15,26 +15,7 @@ use codec::coded::Coded;
 use drafts::draft::Draft;
 use faults::StoreFault;
 use reading::put::put;
-use sheets::call::{Call, Right, Rule, RuleForm};
-
-// A rule as it is handed in.
-fn form(rule: Rule) -> RuleForm
-    ensures { result ≡ form_of rule }
-{
-    let (length, first, second) = match rule.right {
-        Right::Pop => (0, 0, 0),
-        Right::Swap(a) => (1, a, 0),
-        Right::Push(a, b) => (2, a, b),
-    };
-    RuleForm {
-        from: rule.from,
-        symbol: rule.symbol,
-        to: rule.to,
-        length,
-        first,
-        second,
-    }
-}
+use sheets::call::Call;
 
 // The number of the flag that is set and has n set flags before it.
 fn nth_marked(flags: &[bool], n: usize) -> Option<u8>
@@ -60,7 +41,7 @@ fn nth_addition<W: Coded>(draft: &Draft, strip: &[W], n: usize) -> Option<Call<W
 {
     let rules = draft.rules();
     if n < rules.len() {
-        return Some(Call::Rule(form(rules[n]), strip[n]));
+        return Some(Call::Rule(rules[n].into(), strip[n]));
     }
     let arrow = n - rules.len();
     let arrows = draft.arrows();

@@ -71,14 +71,12 @@ impl Draft {
     ) -> Result<u16, SheetFault>
         ensures { Took (rule_step (at (held self.old) strip.old) form weight) (length (held self.old).rules) (at (held self.old) strip.old) (at (held self.new) strip.new) result }
     {
-        let Some(right) = form.right() else {
-            return Err(SheetFault::RightSide);
-        };
+        let rule = Rule::try_from(form)?;
         let counts = self.counts();
-        if !((form.from < counts.controls) & (form.to < counts.controls)) {
+        if !((rule.from < counts.controls) & (rule.to < counts.controls)) {
             return Err(SheetFault::NoControl);
         }
-        if !form.symbols_below(right, counts.symbols) {
+        if !rule.symbols_below(counts.symbols) {
             return Err(SheetFault::NoSymbol);
         }
         let number = self.rules.len();
@@ -86,12 +84,7 @@ impl Draft {
             return Err(SheetFault::NoRuleRoom);
         }
         strip[number] = weight;
-        self.rules.push_reserved(Rule {
-            from: form.from,
-            symbol: form.symbol,
-            to: form.to,
-            right,
-        });
+        self.rules.push_reserved(rule);
         Ok(number as u16)
     }
 

@@ -8,7 +8,7 @@ pub returns-then-n-rules : goal.returns-then-n-rules
 returns-then-n-rules g c =
     let s = held c.args.draft.now in
     at_rule s.rules s.arrows (marked 0 s.finals) c.args.strip.now c.requires c.rules-rules.result.now s.arrows c.rules-rules.ensures refl
-    c.args.n _ c.form.result c.index-strip-n.result c.if-n-rules.true c.form.ensures c.index-strip-n.is
+    c.args.n _ c.into.result c.index-strip-n.result c.if-n-rules.true c.into.ensures c.index-strip-n.is
 
 pub returns-then-arrow-arrows : goal.returns-then-arrow-arrows
 returns-then-arrow-arrows g c =

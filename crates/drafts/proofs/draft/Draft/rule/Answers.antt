@@ -12,7 +12,7 @@ invariant_of-self g c =
     let room : c.len-number.result < 512 = ltb-true _ _ (and_parts _ _ c.if-not-number-strip.false).0 in
     record {
       limits = t.limits;
-      rules_fit = rule_pushed t.counts n.controls n.symbols (vec_items t.rules) _ _ p.items e.controls e.symbols c.if-not-form-counts.false
+      rules_fit = rule_pushed t.counts n.controls n.symbols (vec_items t.rules) _ _ p.items e.controls e.symbols c.if-not-rule-counts.false
           (sym c.symbols_below.ensures ∙ c.if-not-symbols_below.false) t.rules_fit;
       rules_few = omega (arith, p.len, c.len-number.ensures, room);
       rules_room = omega (arith, p.capacity, t.rules_room);
