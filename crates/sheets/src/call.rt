@@ -3,7 +3,7 @@ ghost use Rattle.std.specs.Prelude.{◌≡◌, ◌&&◌, ltb, nat_lt};
 ghost use Rattle.sheets.specs.Sheet.{has, right_of, every, symbols_of};
 
 // How many controls, stack symbols and automaton states there are; the lowest state numbers are the controls.
-#[derive(Clone, Copy)]
+#[derive(Clone, Copy, Default)]
 pub struct Counts {
     pub controls: u8,
     pub symbols: u16,
