@@ -1,4 +1,4 @@
--- A draft's sheet is made again by its own calls, and calls in stored order are the calls of what they make.
+-- A sheet that fits is made again by its own calls, and calls in stored order are the calls of what they make.
 use Rattle.std.proofs.Common.{◌≡◌, ℕ, zero, suc, ◌+◌, ◌-◌, ◌<◌, ◌≤◌, Bool, true, false, cond, not, ◌&&◌, eqb, ltb, leb, List, [], ◌∷◌, ◌++◌, map, length, get_or, take, drop, set, replicate, Some, None, Ok, Err, Option, Result, sym, refl, ap, ◌∙◌, subst, append_assoc, append-nil, add-zero, arith, length-set}
 use Rattle.std.proofs.lemmas.Bool.{eqb-true, leb-true, and_parts, and_from, ltb-true, lt-ltb, not-true, not_from_false, false≢true}
 use Rattle.std.proofs.lemmas.List.{take_more_set, drop-set-lt, length_push, take-append-drop, get_or_at, set_at, drop-drop}
@@ -10,21 +10,19 @@ use Rattle.sheets.specs.declared.call.RuleForm.{RuleForm}
 use Rattle.sheets.specs.declared.call.Arrow.{Arrow}
 use Rattle.sheets.specs.declared.call.Call.{Call}
 use Rattle.sheets.specs.declared.call.Call.TheVariants.{Size, Rule as RuleCall, Arrow as ArrowCall, Final}
-use Rattle.drafts.specs.declared.draft.Draft.{Draft}
 use Rattle.sheets.specs.declared.fault.SheetFault.{SheetFault}
 use Rattle.sheets.specs.declared.fault.SheetFault.TheVariants.{Controls, Symbols, States, NoControl, NoSymbol, NoRuleRoom, NoState, IntoControl, NotNew, NoArrowRoom}
-use Rattle.sheets.specs.Sheet.{Sheet, blank, controls, symbols, states, every, few_controls, few_symbols, few_states, counts_fit, right_of, rule_controls, rule_symbols, rule_fits, arrow_states, arrow_fits, has, new_after}
+use Rattle.sheets.specs.Sheet.{Sheet, Fits, blank, controls, symbols, states, every, few_controls, few_symbols, few_states, counts_fit, right_of, rule_controls, rule_symbols, rule_fits, arrow_states, arrow_fits, has, new_after}
 use Rattle.sheets.specs.Questions.{State, at, asked, step, onto, size_step, arrow_step, final_step, shaped_step, rule_from, with_counts, with_rule, with_arrow, with_final}
 use Rattle.sheets.specs.Calls.{bound, replay, right_length, right_first, right_second, form_of, marked, size_calls, rule_calls, listed, calls_of, Rising, InOrder, laid}
-use Rattle.drafts.specs.Held.{held}
 use Rattle.sheets.proofs.Fits.{every_drop}
 
 pub asked_yes : {S : Type 0} (b : Bool) (e : SheetFault) (r : Result S SheetFault) → b ≡ true → asked b e r ≡ r
 asked_yes b e r h = ap (λ k. cond k r (Err e)) h
 
 -- the sheet with these parts
-abbrev sheet_of : Option Counts → List Rule → List Arrow → List Bool → Sheet
-sheet_of c rs ms fs = record { counts = c; rules = rs; arrows = ms; finals = fs }
+abbrev sheet_with : Option Counts → List Rule → List Arrow → List Bool → Sheet
+sheet_with c rs ms fs = record { counts = c; rules = rs; arrows = ms; finals = fs }
 
 -- n cells on, the weights ws
 abbrev over : {W : Type 0} → ℕ → List W → List W → List W
@@ -57,20 +55,20 @@ module _ {W : Type 0} where
 
   rule_taken : (c : Option Counts) (done : List Rule) (fs : List Bool) (t : List W) (r : Rule) (w : W)
       → rule_fits c r ≡ true → length done < 512 → length done < length t
-      → step (RuleCall (form_of r) w) (at (sheet_of c done [] fs) t) ≡ Ok (at (sheet_of c (done ++ r ∷ []) [] fs) (set t (length done) w))
+      → step (RuleCall (form_of r) w) (at (sheet_with c done [] fs) t) ≡ Ok (at (sheet_with c (done ++ r ∷ []) [] fs) (set t (length done) w))
   rule_taken c done fs t r w h few room =
       let p = and_parts (rule_controls c r.from r.to) (rule_symbols c r.symbol r.right) h in
-      ap (shaped_step (at (sheet_of c done [] fs) t) (form_of r) w) (right_back r.right)
+      ap (shaped_step (at (sheet_with c done [] fs) t) (form_of r) w) (right_back r.right)
       ∙ asked_yes (rule_controls c r.from r.to) NoControl _ p.0
       ∙ asked_yes (rule_symbols c r.symbol r.right) NoSymbol _ p.1
       ∙ asked_yes (ltb (length done) 512 && ltb (length done) (length t)) NoRuleRoom _ (and_from _ _ (lt-ltb _ _ few) (lt-ltb _ _ room))
 
   rules_taken : (c : Option Counts) (fs : List Bool) (done rs : List Rule) (ws t : List W) (rest : List (Call W))
       → every (rule_fits c) rs ≡ true → length done + length rs ≤ 512 → length rs ≤ length ws → length done + length rs ≤ length t
-      → replay (rule_calls (map form_of rs) ws ++ rest) (at (sheet_of c done [] fs) t)
-      ≡ replay rest (at (sheet_of c (done ++ rs) [] fs) (over (length done) (take (length rs) ws) t))
+      → replay (rule_calls (map form_of rs) ws ++ rest) (at (sheet_with c done [] fs) t)
+      ≡ replay rest (at (sheet_with c (done ++ rs) [] fs) (over (length done) (take (length rs) ws) t))
   rules_taken c fs done [] ws t rest h few enough room =
-      λ i. replay rest (at (sheet_of c (sym (append-nil done) i) [] fs) (sym (over_none (length done) t) i))
+      λ i. replay rest (at (sheet_with c (sym (append-nil done) i) [] fs) (sym (over_none (length done) t) i))
   rules_taken c fs done (r ∷ rs) [] t rest h few enough room = absurd (omega arith)
   rules_taken c fs done (r ∷ rs) (w ∷ ws) t rest h few enough room =
       let p = and_parts (rule_fits c r) (every (rule_fits c) rs) h in
@@ -78,12 +76,12 @@ module _ {W : Type 0} where
       let l = length-set t (length done) w in
       ap (bound (replay (rule_calls (map form_of rs) ws ++ rest))) (rule_taken c done fs t r w p.0 (omega arith) (omega arith))
       ∙ rules_taken c fs (done ++ r ∷ []) rs ws (set t (length done) w) rest p.1 (omega (arith, n)) (omega arith) (omega (arith, n, l))
-      ∙ (λ i. replay rest (at (sheet_of c (append_assoc done (r ∷ []) rs i) [] fs)
+      ∙ (λ i. replay rest (at (sheet_with c (append_assoc done (r ∷ []) rs i) [] fs)
       ((ap (λ k. over k (take (length rs) ws) (set t (length done) w)) n ∙ over_more (length done) w (take (length rs) ws) t (omega arith)) i)))
 
   arrow_taken : (c : Option Counts) (rs : List Rule) (done : List Arrow) (fs : List Bool) (t : List W) (a : Arrow)
       → arrow_fits c a ≡ true → not (has done a) ≡ true → length done < 128
-      → step (ArrowCall a) (at (sheet_of c rs done fs) t) ≡ Ok (at (sheet_of c rs (done ++ a ∷ []) fs) t)
+      → step (ArrowCall a) (at (sheet_with c rs done fs) t) ≡ Ok (at (sheet_with c rs (done ++ a ∷ []) fs) t)
   arrow_taken c rs done fs t a h new few =
       let p = and_parts (arrow_states c a) (ltb a.symbol (symbols c) && leb (controls c) a.to) h in
       let q = and_parts (ltb a.symbol (symbols c)) (leb (controls c) a.to) p.1 in
@@ -93,14 +91,14 @@ module _ {W : Type 0} where
 
   arrows_taken : (c : Option Counts) (rs : List Rule) (fs : List Bool) (t : List W) (done ms : List Arrow) (rest : List (Call W))
       → every (arrow_fits c) ms ≡ true → new_after done ms ≡ true → length done + length ms ≤ 128
-      → replay (map ArrowCall ms ++ rest) (at (sheet_of c rs done fs) t) ≡ replay rest (at (sheet_of c rs (done ++ ms) fs) t)
-  arrows_taken c rs fs t done [] rest h new few = λ i. replay rest (at (sheet_of c rs (sym (append-nil done) i) fs) t)
+      → replay (map ArrowCall ms ++ rest) (at (sheet_with c rs done fs) t) ≡ replay rest (at (sheet_with c rs (done ++ ms) fs) t)
+  arrows_taken c rs fs t done [] rest h new few = λ i. replay rest (at (sheet_with c rs (sym (append-nil done) i) fs) t)
   arrows_taken c rs fs t done (a ∷ ms) rest h new few =
       let p = and_parts (arrow_fits c a) (every (arrow_fits c) ms) h in
       let q = and_parts (not (has done a)) (new_after (done ++ a ∷ []) ms) new in
       ap (bound (replay (map ArrowCall ms ++ rest))) (arrow_taken c rs done fs t a p.0 q.0 (omega arith))
       ∙ arrows_taken c rs fs t (done ++ a ∷ []) ms rest p.1 q.1 (omega (arith, length_push done a))
-      ∙ (λ i. replay rest (at (sheet_of c rs (append_assoc done (a ∷ []) ms i) fs) t))
+      ∙ (λ i. replay rest (at (sheet_with c rs (append_assoc done (a ∷ []) ms i) fs) t))
 
 -- a flag that is set has a number below those from which on none is
 flag_below : (n q : ℕ) (fs : List Bool) → every not (drop n fs) ≡ true → get_or fs q false ≡ true → q < n
@@ -112,12 +110,12 @@ flag_below (suc n) (suc q) (b ∷ fs) h e = omega (arith, flag_below n q fs h e)
 
 module _ {W : Type 0} (c : Option Counts) (rs : List Rule) (ms : List Arrow) (t : List W) where
   final_taken : (q : ℕ) (fs : List Bool) → q < states c → get_or fs q false ≡ false
-      → step (Final q) (at (sheet_of c rs ms fs) t) ≡ Ok (at (sheet_of c rs ms (set fs q true)) t)
+      → step (Final q) (at (sheet_with c rs ms fs) t) ≡ Ok (at (sheet_with c rs ms (set fs q true)) t)
   final_taken q fs h e =
       ap (onto t) (asked_yes (ltb q (states c)) NoState _ (lt-ltb _ _ h) ∙ asked_yes (not (get_or fs q false)) NotNew _ (not_from_false _ e))
 
   finals_taken : (n : ℕ) (before fs : List Bool) → length before ≡ n → every not (drop (states c) (before ++ fs)) ≡ true
-      → replay (map Final (marked n fs)) (at (sheet_of c rs ms (before ++ replicate (length fs) false)) t) ≡ Ok (at (sheet_of c rs ms (before ++ fs)) t)
+      → replay (map Final (marked n fs)) (at (sheet_with c rs ms (before ++ replicate (length fs) false)) t) ≡ Ok (at (sheet_with c rs ms (before ++ fs)) t)
   finals_taken n before [] e h = refl
   finals_taken n before (true ∷ fs) e h =
       let rest = replicate (length fs) false in
@@ -125,38 +123,35 @@ module _ {W : Type 0} (c : Option Counts) (rs : List Rule) (ms : List Arrow) (t 
       let next = before ++ true ∷ [] in
       let f = append_assoc before (true ∷ []) fs in
       ap (bound (replay (map Final (marked (n + 1) fs)))) (final_taken n (before ++ false ∷ rest) below (get_or_at before false rest false n e))
-      ∙ (λ i. replay (map Final (marked (n + 1) fs)) (at (sheet_of c rs ms ((set_at before false rest true n e ∙ sym (append_assoc before (true ∷ []) rest)) i)) t))
+      ∙ (λ i. replay (map Final (marked (n + 1) fs)) (at (sheet_with c rs ms ((set_at before false rest true n e ∙ sym (append_assoc before (true ∷ []) rest)) i)) t))
       ∙ finals_taken (n + 1) next fs (length_push before true ∙ ap (λ k. k + 1) e) (ap (λ l. every not (drop (states c) l)) f ∙ h)
-      ∙ (λ i. Ok (at (sheet_of c rs ms (f i)) t))
+      ∙ (λ i. Ok (at (sheet_with c rs ms (f i)) t))
   finals_taken n before (false ∷ fs) e h =
       let rest = replicate (length fs) false in
       let next = before ++ false ∷ [] in
       let f = append_assoc before (false ∷ []) fs in
-      (λ i. replay (map Final (marked (n + 1) fs)) (at (sheet_of c rs ms (sym (append_assoc before (false ∷ []) rest) i)) t))
+      (λ i. replay (map Final (marked (n + 1) fs)) (at (sheet_with c rs ms (sym (append_assoc before (false ∷ []) rest) i)) t))
       ∙ finals_taken (n + 1) next fs (length_push before false ∙ ap (λ k. k + 1) e) (ap (λ l. every not (drop (states c) l)) f ∙ h)
-      ∙ (λ i. Ok (at (sheet_of c rs ms (f i)) t))
+      ∙ (λ i. Ok (at (sheet_with c rs ms (f i)) t))
 
 module _ {W : Type 0} where
   sized_taken : (c : Option Counts) (t : List W) (rest : List (Call W)) → counts_fit c ≡ true
-      → replay (size_calls c ++ rest) (at blank t) ≡ replay rest (at (sheet_of c [] [] (replicate 32 false)) t)
+      → replay (size_calls c ++ rest) (at blank t) ≡ replay rest (at (sheet_with c [] [] (replicate 32 false)) t)
   sized_taken None t rest h = refl
   sized_taken (Some c) t rest h = ap (bound (replay rest)) (size_taken c t h)
 
-  -- a draft's own calls make its sheet again, on any strip that has a cell for each rule
-  pub replays : (d : Draft) (ws t : List W) → length (held d).rules ≤ length ws → length (held d).rules ≤ length t
-      → replay (calls_of (held d) ws) (at blank t) ≡ Ok (at (held d) (laid (take (length (held d).rules) ws) t))
-  replays d ws t enough room =
-      let s = held d in
+  -- the calls of a sheet that fits make it again, on any strip that has a cell for each rule
+  pub replays : (s : Sheet) (ws t : List W) → Fits s → length s.rules ≤ length ws → length s.rules ≤ length t
+      → replay (calls_of s ws) (at blank t) ≡ Ok (at s (laid (take (length s.rules) ws) t))
+  replays s ws t f enough room =
       let finals : List (Call W) = map Final (marked 0 s.finals) in
       let strip = laid (take (length s.rules) ws) t in
-      let few_rules : length s.rules ≤ 512 = omega (arith, d.rules_few, d.rules.ok.0) in
-      let few_arrows : length s.arrows ≤ 128 = omega (arith, d.arrows_few, d.arrows.ok.0) in
-      sized_taken s.counts t _ d.limits
-      ∙ rules_taken s.counts (replicate 32 false) [] s.rules ws t _ d.rules_fit (omega arith) enough (omega arith)
-      ∙ (λ i. replay (map ArrowCall s.arrows ++ finals) (at (sheet_of s.counts s.rules [] (replicate 32 false)) (over_all (take (length s.rules) ws) t i)))
-      ∙ arrows_taken s.counts s.rules (replicate 32 false) strip [] s.arrows finals d.arrows_fit d.arrows_new (omega arith)
-      ∙ (λ i. replay finals (at (sheet_of s.counts s.rules s.arrows (replicate (sym d.finals_all i) false)) strip))
-      ∙ finals_taken s.counts s.rules s.arrows strip 0 [] s.finals refl d.finals_fit
+      sized_taken s.counts t _ f.limits
+      ∙ rules_taken s.counts (replicate 32 false) [] s.rules ws t _ f.rules_fit (omega arith) enough (omega arith)
+      ∙ (λ i. replay (map ArrowCall s.arrows ++ finals) (at (sheet_with s.counts s.rules [] (replicate 32 false)) (over_all (take (length s.rules) ws) t i)))
+      ∙ arrows_taken s.counts s.rules (replicate 32 false) strip [] s.arrows finals f.arrows_fit f.arrows_new (omega arith)
+      ∙ (λ i. replay finals (at (sheet_with s.counts s.rules s.arrows (replicate (sym f.finals_all i) false)) strip))
+      ∙ finals_taken s.counts s.rules s.arrows strip 0 [] s.finals refl f.finals_fit
 
 -- what an accepted call says of what it left
 no_way : {S : Type 0} {e : SheetFault} {t : S} → Err e ≡ Ok t → ⊥
@@ -276,14 +271,14 @@ module _ {W : Type 0} where
   -- where marks that rise lead
   record Marks (s u : State W) (ms : List Arrow) (qs : List ℕ) (rs : List Rule) (strip : List W) : Type 0 where
     finals : List Bool
-    is : u ≡ at (sheet_of s.sheet.counts (s.sheet.rules ++ rs) (s.sheet.arrows ++ ms) finals) strip
+    is : u ≡ at (sheet_with s.sheet.counts (s.sheet.rules ++ rs) (s.sheet.arrows ++ ms) finals) strip
     marks : marked 0 finals ≡ marked 0 s.sheet.finals ++ qs
 
   finals_led : (n : ℕ) (qs : List ℕ) (s u : State W) → Rising n qs → states s.sheet.counts ≤ length s.sheet.finals → every not (drop n s.sheet.finals) ≡ true
       → replay (map Final qs) s ≡ Ok u → Marks s u [] qs [] s.strip
   finals_led n [] s u up room none e = record {
     finals = s.sheet.finals;
-    is = sym (same_ok e) ∙ (λ i. at (sheet_of s.sheet.counts (sym (append-nil s.sheet.rules) i) (sym (append-nil s.sheet.arrows) i) s.sheet.finals) s.strip);
+    is = sym (same_ok e) ∙ (λ i. at (sheet_with s.sheet.counts (sym (append-nil s.sheet.rules) i) (sym (append-nil s.sheet.arrows) i) s.sheet.finals) s.strip);
     marks = sym (append-nil (marked 0 s.sheet.finals));
   }
   finals_led n (q ∷ qs) s u up room none e =
@@ -311,7 +306,7 @@ module _ {W : Type 0} where
         let i = arrows_led ms (at (with_arrow s.sheet a) s.strip) u room none (ap (replay (map ArrowCall ms ++ map Final qs)) (arrow_ok a s r.0 r.1) ∙ r.2) in
         record {
           finals = i.finals;
-          is = i.is ∙ (λ j. at (sheet_of s.sheet.counts (s.sheet.rules ++ []) (append_assoc s.sheet.arrows (a ∷ []) ms j) i.finals) s.strip);
+          is = i.is ∙ (λ j. at (sheet_with s.sheet.counts (s.sheet.rules ++ []) (append_assoc s.sheet.arrows (a ∷ []) ms j) i.finals) s.strip);
           marks = i.marks;
         }
 
@@ -331,7 +326,7 @@ module _ {W : Type 0} where
           forms = refl;
           leads = record {
             finals = i.finals;
-            is = i.is ∙ ap (at (sheet_of s.sheet.counts (s.sheet.rules ++ []) (s.sheet.arrows ++ ms) i.finals)) (sym (over_none (length s.sheet.rules) s.strip));
+            is = i.is ∙ ap (at (sheet_with s.sheet.counts (s.sheet.rules ++ []) (s.sheet.arrows ++ ms) i.finals)) (sym (over_none (length s.sheet.rules) s.strip));
             marks = i.marks;
           };
         }
@@ -350,7 +345,7 @@ module _ {W : Type 0} where
           leads = record {
             finals = i.leads.finals;
             is = i.leads.is
-                ∙ (λ j. at (sheet_of s.sheet.counts (append_assoc s.sheet.rules (r ∷ []) i.rules j) (s.sheet.arrows ++ ms) i.leads.finals)
+                ∙ (λ j. at (sheet_with s.sheet.counts (append_assoc s.sheet.rules (r ∷ []) i.rules j) (s.sheet.arrows ++ ms) i.leads.finals)
                 ((ap (λ k. over k ws (set s.strip n w)) (length_push s.sheet.rules r) ∙ over_more n w ws s.strip o.2) j));
             marks = i.leads.marks;
           };
@@ -362,10 +357,10 @@ module _ {W : Type 0} where
   rules_front (f ∷ fs) (w ∷ ws) more e = ap (λ l. RuleCall f w ∷ l) (rules_front fs ws more (omega arith))
 
   module _ (o : Option Counts) (fs : List RuleForm) (ws : List W) (ms : List Arrow) (qs : List ℕ) (paired : length fs ≡ length ws) (up : Rising 0 qs) where
-    again_from : (t : List W) (u : State W) → states o ≤ 32 → replay (rule_calls fs ws ++ (map ArrowCall ms ++ map Final qs)) (at (sheet_of o [] [] (replicate 32 false)) t) ≡ Ok u
+    again_from : (t : List W) (u : State W) → states o ≤ 32 → replay (rule_calls fs ws ++ (map ArrowCall ms ++ map Final qs)) (at (sheet_with o [] [] (replicate 32 false)) t) ≡ Ok u
         → calls_of u.sheet u.strip ≡ listed o fs ws ms qs
     again_from t u few e =
-        let x = rules_led qs up fs ws ms (at (sheet_of o [] [] (replicate 32 false)) t) u paired few refl e in
+        let x = rules_led qs up fs ws ms (at (sheet_with o [] [] (replicate 32 false)) t) u paired few refl e in
         let y = x.leads in
         ap (λ (v : State W). calls_of v.sheet v.strip) y.is
         ∙ (λ i. listed o (x.forms i) (ws ++ drop (0 + length ws) t) ms (y.marks i))
