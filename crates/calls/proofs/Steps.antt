@@ -1,19 +1,11 @@
 -- What one call does, by the step that its contract names.
-use Rattle.std.proofs.Common.{◌≡◌, List, Ok, Err, Result, sym, ap, ◌∙◌}
-use Rattle.sheets.specs.declared.call.Call.{Call}
+use Rattle.std.proofs.Common.{List, Ok, Err, Result, ap}
 use Rattle.sheets.specs.declared.fault.SheetFault.{SheetFault}
 use Rattle.sheets.specs.Sheet.{Sheet}
-use Rattle.sheets.specs.Questions.{State, at, step, onto, kept, told, Took}
+use Rattle.sheets.specs.Questions.{at, onto, Took}
 
 -- a call that works on the sheet alone leaves the strip
 pub took_onto : {W : Type 0} (strip : List W) (r : Result Sheet SheetFault) (before after : Sheet) (a : Result (Unit {0}) SheetFault)
     → Took r tt before after a → Took (onto strip r) tt (at before strip) (at after strip) a
 took_onto strip (Ok s) before after a t = record { state = ap (λ k. at k strip) t.state; answer = t.answer }
 took_onto strip (Err e) before after a t = record { state = ap (λ k. at k strip) t.state; answer = t.answer }
-
-pub took_call : {W : Type 0} (c d : Call W) (before after : State W) (a : Result (Unit {0}) SheetFault)
-    → c ≡ d → Took (step d before) tt before after a → Took (step c before) tt before after a
-took_call c d before after a e t = record {
-  state = t.state ∙ ap (λ k. kept before (step k before)) (sym e);
-  answer = t.answer ∙ ap (λ k. told tt (step k before)) (sym e);
-}

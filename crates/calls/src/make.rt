@@ -1,5 +1,4 @@
 //! A call from its value.
-ghost use Rattle.drafts.specs.Held.{held};
 ghost use Rattle.sheets.specs.Questions.{Took, step, at};
 
 use drafts::draft::Draft;
@@ -8,7 +7,7 @@ use sheets::fault::SheetFault;
 
 // Makes a call on a draft.
 pub fn make<W: Copy>(draft: &mut Draft, strip: &mut [W], call: Call<W>) -> Result<(), SheetFault>
-    ensures { Took (step call (at (held draft.old) strip.old)) tt (at (held draft.old) strip.old) (at (held draft.new) strip.new) result }
+    ensures { Took (step call (at draft.old strip.old)) tt (at draft.old strip.old) (at draft.new strip.new) result }
 {
     match call {
         Call::Size(counts) => draft.size(counts),

@@ -2,7 +2,6 @@
 ghost use Rattle.std.specs.Prelude.{◌≡◌, not, length, Ok, MatchResult};
 ghost use Rattle.reading.specs.Left.{left};
 ghost use Rattle.sheets.specs.Sheet.{blank};
-ghost use Rattle.drafts.specs.Held.{held};
 ghost use Rattle.sheets.specs.Questions.{at};
 ghost use Rattle.sheets.specs.Calls.{InOrder};
 ghost use Rattle.loading.specs.Load.{ends, spot_of, loading, calls_in, Called, Failed};
@@ -42,7 +41,7 @@ fn load_call<W: Coded>(
     strip: &mut [W],
     from: &mut Reader<'_>,
 ) -> Result<(), LoadFault>
-    ensures { MatchResult result (λ _. Called W.Coded.look W.Coded.bytes from.old from.new (at (held draft.old) strip.old) (at (held draft.new) strip.new)) (Failed W.Coded.look from.old (at (held draft.old) strip.old) (at (held draft.new) strip.new)) }
+    ensures { MatchResult result (λ _. Called W.Coded.look W.Coded.bytes from.old from.new (at draft.old strip.old) (at draft.new strip.new)) (Failed W.Coded.look from.old (at draft.old strip.old) (at draft.new strip.new)) }
 {
     let spot = next_spot(from);
     let call = match read_call::<W>(from) {
@@ -58,9 +57,9 @@ fn load_call<W: Coded>(
 // Makes the calls that the bytes spell, and says how many bytes that took. A refused load keeps what the entries
 // before the refusal added. Bytes in stored order that load whole into a new draft are stored again byte for byte.
 pub fn load<W: Coded>(draft: &mut Draft, strip: &mut [W], bytes: &[u8]) -> Result<usize, LoadFault>
-    ensures state { at (held draft.new) strip.new ≡ (loading W.Coded.look bytes.now (at (held draft.old) strip.old)).state }
-    ensures answer { result ≡ (loading W.Coded.look bytes.now (at (held draft.old) strip.old)).answer }
-    ensures again { held draft.old ≡ blank → result ≡ Ok (length bytes.now) → InOrder (calls_in W.Coded.look bytes.now) → stored W.Coded.bytes (held draft.new) strip.new ≡ bytes.now }
+    ensures state { at draft.new strip.new ≡ (loading W.Coded.look bytes.now (at draft.old strip.old)).state }
+    ensures answer { result ≡ (loading W.Coded.look bytes.now (at draft.old strip.old)).answer }
+    ensures again { draft.old ≡ blank → result ≡ Ok (length bytes.now) → InOrder (calls_in W.Coded.look bytes.now) → stored W.Coded.bytes draft.new strip.new ≡ bytes.now }
 {
     let mut reader = Reader::new(bytes);
     while more(&reader) {

@@ -1,5 +1,5 @@
 -- What a sheet holds, and what may stand in it.
-use Rattle.std.specs.Prelude.{ℕ, Bool, true, false, cond, not, ◌&&◌, ltb, List, [], ◌∷◌, ◌++◌, replicate, Some, None, Option, ◌==◌, nat_le, nat_lt}
+use Rattle.std.specs.Prelude.{◌≡◌, ℕ, ◌≤◌, Bool, true, false, cond, not, ◌&&◌, ltb, List, [], ◌∷◌, ◌++◌, length, drop, replicate, Some, None, Option, ◌==◌, nat_le, nat_lt}
 use Rattle.std.specs.List.{list_any}
 use Rattle.sheets.specs.declared.call.Counts.{Counts}
 use Rattle.sheets.specs.declared.call.Right.{Right}
@@ -88,3 +88,14 @@ has xs a = list_any (λ x. same_arrow x a) xs
 abbrev pub new_after : List Arrow → List Arrow → Bool
 new_after before [] = true
 new_after before (a ∷ more) = not (has before a) && new_after (before ++ a ∷ []) more
+
+-- a sheet whose parts have passed their questions
+pub record Fits (s : Sheet) : Type 0 where
+  pub limits : counts_fit s.counts ≡ true
+  pub rules_fit : every (rule_fits s.counts) s.rules ≡ true
+  pub rules_few : length s.rules ≤ 512
+  pub arrows_fit : every (arrow_fits s.counts) s.arrows ≡ true
+  pub arrows_new : new_after [] s.arrows ≡ true
+  pub arrows_few : length s.arrows ≤ 128
+  pub finals_all : length s.finals ≡ 32
+  pub finals_fit : every not (drop (states s.counts) s.finals) ≡ true

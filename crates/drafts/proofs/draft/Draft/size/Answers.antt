@@ -1,21 +1,12 @@
-use Rattle.std.proofs.Common.{◌≡◌, Some, None, sym}
-use Rattle.sheets.proofs.Fits.{none_since, limits_sized, rules_sized, arrows_sized, finals_sized}
+use Rattle.std.proofs.Common.{arith}
+use Rattle.std.proofs.lemmas.Grind.{common_steps}
+use Rattle.drafts.specs.Draft.{sheet_of}
+use Rattle.drafts.proofs.Fits.{fits_with_counts}
 use Rattle.drafts.proofs.draft.Draft.size.Goals as goal
 
 pub invariant_of-self : goal.invariant_of-self
-invariant_of-self c =
-    let t = c.args.self.now in
-    let n = c.args.counts in
-    let none : t.counts ≡ None = none_since t.counts (sym c.if-is_some.ensures) in
-    record {
-      limits = limits_sized n c.if-not-counts.false c.if-not-counts-2.false c.if-not-counts-3.false;
-      rules_fit = rules_sized (Some n) t.counts _ none t.rules_fit;
-      rules_few = t.rules_few;
-      rules_room = t.rules_room;
-      arrows_fit = arrows_sized (Some n) t.counts _ none t.arrows_fit;
-      arrows_new = t.arrows_new;
-      arrows_few = t.arrows_few;
-      arrows_room = t.arrows_room;
-      finals_all = t.finals_all;
-      finals_fit = finals_sized (Some n) t.counts t.finals none t.finals_fit;
-    }
+invariant_of-self c = record {
+  fits = fits_with_counts (sheet_of c.self.inside) c.args.counts c.self.invariant.fits (grind (arith, common_steps)) (grind (arith, common_steps));
+  rules_room = c.self.invariant.rules_room;
+  arrows_room = c.self.invariant.arrows_room;
+}
