@@ -1,12 +1,13 @@
 -- What is written reads as itself, by the meanings of the weights; so a stored sheet loads as itself.
-use Rattle.std.proofs.Common.{◌≡◌, ℕ, zero, suc, ◌+◌, ◌*◌, ◌/◌, ◌%◌, ◌^◌, ◌<◌, ◌≤◌, Bool, true, false, cond, ◌&&◌, ltb, leb, List, [], ◌∷◌, ◌++◌, map, length, take, drop, set, IfOk, Some, None, Ok, Err, Option, Result, sym, refl, ap, ◌∙◌, arith, length-append, MatchOption}
+use Rattle.std.proofs.Common.{◌≡◌, ℕ, zero, suc, ◌+◌, ◌*◌, ◌/◌, ◌%◌, ◌^◌, ◌<◌, ◌≤◌, Bool, true, false, ◌&&◌, ltb, leb, List, [], ◌∷◌, ◌++◌, map, length, take, drop, set, Some, None, Ok, Err, Option, Result, sym, refl, ap, ◌∙◌, arith, length-append}
 use lib.ListN.{length-map}
+use Rattle.std.specs.List.{All}
 use Rattle.std.proofs.lemmas.List.{map-set, take_at}
-use Rattle.std.proofs.lemmas.Bool.{and_parts, leb-true, le-leb}
-use Rattle.std.specs.Option.{ok_or}
+use Rattle.std.proofs.lemmas.List.Elements.{All-nil, All-cons, All-head, All-tail, All-append, All-map}
+use Rattle.std.proofs.lemmas.Bool.{and_parts, leb-true}
 use Rattle.codec.specs.Look.{done}
 use Rattle.codec.specs.Coded.{Gives}
-use Rattle.reading.specs.Splice.{splice, Written}
+use Rattle.reading.specs.Splice.{Written}
 use Rattle.codec.specs.Codes.{Code}
 use Rattle.codec.specs.Pairs.{gives_then, gives_done}
 use Rattle.codec.proofs.Leaves.{leaf_back}
@@ -27,10 +28,8 @@ use Rattle.faults.specs.declared.Spot.{Spot}
 use Rattle.faults.specs.declared.LoadFault.{LoadFault}
 use Rattle.calls.specs.Spell.{spell, spells, to_size, to_form, to_arrow_call, to_final, look_entry, look_weight, look_call}
 use Rattle.loading.specs.Load.{Placed, Parsed, ends, spot_at, beyond, after, placed, read_on, parse, ended, made_on, run, loading}
-use Rattle.faults.specs.declared.StoreFault.{StoreFault}
-use Rattle.faults.specs.declared.StoreFault.TheVariants.{ShortStrip, NoRoom}
 use Rattle.calls.specs.Spell.{stored}
-use Rattle.storing.specs.Store.{refused, put_in, storing, LoadsAs}
+use Rattle.storing.specs.Store.{LoadsAs}
 use Rattle.calls.proofs.Spelling.{spells_long, same_ok, never_ok}
 use Rattle.loading.proofs.Turns.{parse_on}
 
@@ -52,9 +51,9 @@ Small (RuleCall f w) = Unit {0}
 Small (ArrowCall a) = Unit {0}
 Small (Final q) = Unit {0}
 
-abbrev AllSmall : {W : Type 0} → List (Call W) → Type 0
-AllSmall [] = Unit {0}
-AllSmall (c ∷ cs) = Small c × AllSmall cs
+-- calls with the meanings of their weights, of those that were read
+abbrev meant_calls : {W V : Type 0} → (W → V) → List (Placed W) → List (Call V)
+meant_calls {W} m ps = map (λ (p : Placed W). meant m p.call) ps
 
 module _ {W V : Type 0} (k : Code W V) where
   -- l reads as a call that means what c means, and leaves `rest`
@@ -95,33 +94,30 @@ module _ {W V : Type 0} (k : Code W V) where
   goes_on (ArrowCall a) rest = refl
   goes_on (Final q) rest = refl
 
-  abbrev meanings : List (Placed W) → List (Call V)
-  meanings ps = map (λ (p : Placed W). meant k.meaning p.call) ps
-
   -- calls that were parsed whole, by their meanings
   record ParsedBack (cs : List (Call W)) (s : Spot) (p : Parsed W) : Type 0 where
     pub whole : p.fault ≡ None
     pub used : p.spot.place ≡ s.place + length (spells k.bytes cs)
-    pub calls : meanings p.calls ≡ map (meant k.meaning) cs
+    pub calls : meant_calls k.meaning p.calls ≡ map (meant k.meaning) cs
 
-  parsed_back : (cs : List (Call W)) (n : ℕ) (s : Spot) → AllSmall cs → length cs ≤ n → ParsedBack cs s (parse k.look n s (spells k.bytes cs))
+  parsed_back : (cs : List (Call W)) (n : ℕ) (s : Spot) → All Small cs → length cs ≤ n → ParsedBack cs s (parse k.look n s (spells k.bytes cs))
   parsed_back [] zero s z h = record { whole = refl; used = omega arith; calls = refl }
   parsed_back [] (suc n) s z h = record { whole = refl; used = omega arith; calls = refl }
   parsed_back (c ∷ cs) zero s z h = absurd (omega arith)
   parsed_back (c ∷ cs) (suc n) s z h =
       let rest = spells k.bytes cs in
       let l = spell k.bytes c ++ rest in
-      let b = call_back c rest z.0 in
+      let b = call_back c rest (All-head Small c cs z) in
       let t = beyond s l (look_call k.look l) in
       let p : parse k.look (suc n) s l ≡ after (placed s b.call ∷ []) (parse k.look n t rest) =
       parse_on k.look n s l (goes_on c rest)
       ∙ ap (read_on s t (parse k.look n t (look_call k.look l).left)) b.gives.says
       ∙ ap (λ r. after (placed s b.call ∷ []) (parse k.look n t r)) b.gives.leaves in
-      let i = parsed_back cs n t z.1 (omega arith) in
+      let i = parsed_back cs n t (All-tail Small c cs z) (omega arith) in
       record {
         whole = ap (λ q. q.fault) p ∙ i.whole;
         used = ap (λ q. q.spot.place) p ∙ i.used ∙ omega (arith, ap length b.gives.leaves, length-append (spell k.bytes c) rest);
-        calls = ap (λ q. meanings q.calls) p ∙ (λ j. b.means j ∷ i.calls j);
+        calls = ap (λ q. meant_calls k.meaning q.calls) p ∙ (λ j. b.means j ∷ i.calls j);
       }
 
 abbrev over : {S T : Type 0} → (S → T) → Result S SheetFault → Result T SheetFault
@@ -171,24 +167,21 @@ module _ {W V : Type 0} (m : W → V) where
       let r = bound_ok (replay cs) (step c s) u q in
       ap (bound (replay (map (meant m) cs))) (step_over c s ∙ ap (over (seen m)) r.1) ∙ replay_over cs r.0 u r.2
 
-  abbrev meant_calls : List (Placed W) → List (Call V)
-  meant_calls ps = map (λ (p : Placed W). meant m p.call) ps
-
   record Ran (ps : List (Placed W)) (a : Result ℕ LoadFault) (s : State W) (v : State V) : Type 0 where
     pub answer : (run ps a s).answer ≡ a
     pub state : seen m (run ps a s).state ≡ v
 
-  run_over : (ps : List (Placed W)) (a : Result ℕ LoadFault) (s : State W) (v : State V) → replay (meant_calls ps) (seen m s) ≡ Ok v → Ran ps a s v
+  run_over : (ps : List (Placed W)) (a : Result ℕ LoadFault) (s : State W) (v : State V) → replay (meant_calls m ps) (seen m s) ≡ Ok v → Ran ps a s v
   run_over [] a s v q = record { answer = refl; state = same_ok q }
   run_over (p ∷ ps) a s v q =
-      let r = bound_ok (replay (meant_calls ps)) (step (meant m p.call) (seen m s)) v q in
+      let r = bound_ok (replay (meant_calls m ps)) (step (meant m p.call) (seen m s)) v q in
       let o = over_ok (seen m) (step p.call s) r.0 (sym (step_over p.call s) ∙ r.1) in
-      let i = run_over ps a o.0 v (ap (replay (meant_calls ps)) o.2 ∙ r.2) in
+      let i = run_over ps a o.0 v (ap (replay (meant_calls m ps)) o.2 ∙ r.2) in
       let e : run (p ∷ ps) a s ≡ run ps a o.0 = ap (made_on p.spot s (run ps a)) o.1 in
       record { answer = ap (λ l. l.answer) e ∙ i.answer; state = ap (λ l. seen m l.state) e ∙ i.state }
 
 module _ {W V : Type 0} (k : Code W V) where
-  loads_as : (cs : List (Call W)) (s u : State W) → AllSmall cs → replay cs s ≡ Ok u → LoadsAs k.meaning (length (spells k.bytes cs)) (loading k.look (spells k.bytes cs) s) u
+  loads_as : (cs : List (Call W)) (s u : State W) → All Small cs → replay cs s ≡ Ok u → LoadsAs k.meaning (length (spells k.bytes cs)) (loading k.look (spells k.bytes cs) s) u
   loads_as cs s u z q =
       let l = spells k.bytes cs in
       let p = parse k.look (length l) (spot_at 1 0) l in
@@ -204,68 +197,37 @@ module _ {W V : Type 0} (k : Code W V) where
 
 -- the calls of a draft are small
 module _ {W : Type 0} where
-  small_join : (xs ys : List (Call W)) → AllSmall xs → AllSmall ys → AllSmall (xs ++ ys)
-  small_join [] ys p q = q
-  small_join (x ∷ xs) ys p q = (p.0, small_join xs ys p.1 q)
-
-  small_size : (c : Option Counts) (rest : List (Call W)) → counts_fit c ≡ true → AllSmall rest → AllSmall (size_calls c ++ rest)
-  small_size None rest h z = z
-  small_size (Some c) rest h z =
+  small_size : (c : Option Counts) → counts_fit c ≡ true → All Small (size_calls {W = W} c)
+  small_size None h = All-nil Small
+  small_size (Some c) h =
       let a = and_parts (few_controls c) (few_symbols c && few_states c) h in
       let b = and_parts (few_symbols c) (few_states c) a.1 in
       let d = and_parts (leb 1 c.symbols) (leb c.symbols 256) b.0 in
-      (omega (arith, leb-true c.symbols 256 d.1), z)
+      All-cons Small (Size c) [] (omega (arith, leb-true c.symbols 256 d.1)) (All-nil Small)
 
-  small_rules : (fs : List RuleForm) (ws : List W) → AllSmall (rule_calls fs ws)
-  small_rules [] ws = tt
-  small_rules (f ∷ fs) [] = tt
-  small_rules (f ∷ fs) (w ∷ ws) = (tt, small_rules fs ws)
+  small_rules : (fs : List RuleForm) (ws : List W) → All Small (rule_calls fs ws)
+  small_rules [] ws = All-nil Small
+  small_rules (f ∷ fs) [] = All-nil Small
+  small_rules (f ∷ fs) (w ∷ ws) = All-cons Small (RuleCall f w) (rule_calls fs ws) tt (small_rules fs ws)
 
-  small_map : {A : Type 0} (f : A → Call W) → ((x : A) → Small (f x)) → (xs : List A) → AllSmall (map f xs)
-  small_map f h [] = tt
-  small_map f h (x ∷ xs) = (h x, small_map f h xs)
-
-  small_calls : (d : Draft) (ws : List W) → AllSmall (calls_of (held d) ws)
+  small_calls : (d : Draft) (ws : List W) → All Small (calls_of (held d) ws)
   small_calls d ws =
       let s = held d in
-      small_size s.counts _ d.limits
-      (small_join (rule_calls (map form_of s.rules) ws) _ (small_rules (map form_of s.rules) ws)
-      (small_join (map ArrowCall s.arrows) _ (small_map ArrowCall (λ a. tt) s.arrows) (small_map Final (λ q. tt) (marked 0 s.finals))))
+      All-append Small _ _ (small_size s.counts d.limits)
+      (All-append Small _ _ (small_rules (map form_of s.rules) ws)
+      (All-append Small _ _ (All-map Small ArrowCall s.arrows (λ k e h. tt)) (All-map Small Final (marked 0 s.finals) (λ k e h. tt))))
 
--- a stored sheet loads as itself
-loads_back : {W V : Type 0} (k : Code W V) (d : Draft) (ws t : List W) (before behind : List ℕ) (n : ℕ)
-    → length (held d).rules ≤ length ws → Written 0 (length (stored k.bytes (held d) ws)) (stored k.bytes (held d) ws) before behind n → length (held d).rules ≤ length t
-    → LoadsAs k.meaning n (loading k.look (take n behind) (at blank t)) (at (held d) (laid (take (length (held d).rules) ws) t))
-loads_back k d ws t before behind n enough w room =
-    let bs = stored k.bytes (held d) ws in
-    let count : n ≡ length bs = omega (arith, w.next) in
-    let front : take n behind ≡ bs = ap (take n) w.put ∙ take_at bs (drop (0 + length bs) before) n (sym count) in
-    let r = loads_as k (calls_of (held d) ws) (at blank t) (at (held d) (laid (take (length (held d).rules) ws) t)) (small_calls d ws) (replays d ws t enough room) in
-    rw (front, count) r
-
--- a store that has the strip and the room
-module _ {W V : Type 0} (k : Code W V) (d : Draft) (ws : List W) (out next : List ℕ) (enough : length (held d).rules ≤ length ws) where
-  pub record Stores (r : Result ℕ StoreFault) : Type 0 where
-    pub answer : r ≡ (storing k.bytes (held d) ws out).answer
-    pub buffer : next ≡ (storing k.bytes (held d) ws out).buffer
-    pub back : IfOk r (λ n. (t : List W) → length (held d).rules ≤ length t
-        → LoadsAs k.meaning n (loading k.look (take n next) (at blank t)) (at (held d) (laid (take (length (held d).rules) ws) t)))
-
-  abbrev bs : List ℕ
+-- what is written for a draft, whose rules have the weights ws, loads as that draft
+module _ {W V : Type 0} (k : Code W V) (d : Draft) (ws : List W) where
+  abbrev pub bs : List ℕ
   bs = stored k.bytes (held d) ws
 
-  all_written : (n : ℕ) → Written 0 (length bs) bs out next n → Stores (Ok n)
-  all_written n w =
-      let e : storing k.bytes (held d) ws out ≡ record { answer = Ok (length bs); buffer = splice 0 bs out } =
-      ap (λ b. cond b (put_in bs out) (refused ShortStrip out)) (le-leb _ _ enough)
-      ∙ ap (λ b. cond b (record { answer = Ok (length bs); buffer = splice 0 bs out }) (refused NoRoom out)) (le-leb _ _ (omega (arith, w.room))) in
-      let count : n ≡ length bs = omega (arith, w.next) in
-      record {
-        answer = ap Ok count ∙ ap (λ x. x.answer) (sym e);
-        buffer = w.put ∙ ap (λ x. x.buffer) (sym e);
-        back = λ t room. loads_back k d ws t out next n enough w room;
-      }
+  abbrev pub LoadsBack : List ℕ → ℕ → Type 0
+  LoadsBack out n = (t : List W) → length (held d).rules ≤ length t → LoadsAs k.meaning n (loading k.look (take n out) (at blank t)) (at (held d) (laid (take (length (held d).rules) ws) t))
 
-  pub stores : (o : Option ℕ) (r : Result ℕ StoreFault) → r ≡ ok_or o NoRoom → MatchOption o ⊥ (Written 0 (length bs) bs out next) → Stores r
-  stores None r e w = absurd w
-  stores (Some n) r e w = rw e (all_written n w)
+  pub loads_back : length (held d).rules ≤ length ws → (before out : List ℕ) (n : ℕ) → Written 0 (length bs) bs before out n → LoadsBack out n
+  loads_back enough before out n w t room =
+      let count : n ≡ length bs = omega (arith, w.next) in
+      let front : take n out ≡ bs = ap (take n) w.put ∙ take_at bs (drop (0 + length bs) before) n (sym count) in
+      let r = loads_as k (calls_of (held d) ws) (at blank t) (at (held d) (laid (take (length (held d).rules) ws) t)) (small_calls d ws) (replays d ws t enough room) in
+      rw (front, count) r

@@ -1,3 +1,2 @@
-pub mod Nths
 pub mod Writes
 pub mod Backs

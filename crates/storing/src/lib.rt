@@ -1,4 +1,5 @@
 //! Sheets written as entries.
 #![tactic(auto)]
 
+mod calls_of;
 pub mod store;

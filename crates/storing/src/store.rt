@@ -1,70 +1,21 @@
 //! Storing a draft as bytes.
-ghost use Rattle.std.specs.Prelude.{◌≡◌, ◌+◌, ◌<◌, ◌≤◌, List, map, length, take, IfOk, None, MatchOption};
-ghost use Rattle.std.specs.List.{slice_get};
+ghost use Rattle.std.specs.Prelude.{◌≡◌, ◌+◌, ◌<◌, ◌≤◌, List, length, take, IfOk, MatchOption};
 ghost use Rattle.reading.specs.Splice.{Written};
 ghost use Rattle.sheets.specs.Sheet.{blank};
 ghost use Rattle.drafts.specs.Held.{held};
 ghost use Rattle.sheets.specs.Questions.{at};
-ghost use Rattle.sheets.specs.Calls.{form_of, marked, listed, calls_of, laid};
-ghost use Rattle.calls.specs.Spell.{spell};
+ghost use Rattle.sheets.specs.Calls.{laid};
+ghost use Rattle.calls.specs.Spell.{spell, spells};
 ghost use Rattle.loading.specs.Load.{loading};
-ghost use Rattle.calls.specs.Spell.{stored};
+ghost use Rattle.storing.specs.Left.{calls_left};
 ghost use Rattle.storing.specs.Store.{storing, LoadsAs};
 
+use crate::calls_of::Calls;
 use codec::coded::Coded;
 use drafts::draft::Draft;
 use faults::StoreFault;
 use reading::put::put;
 use sheets::call::Call;
-
-// The number of the flag that is set and has n set flags before it.
-fn nth_marked(flags: &[bool], n: usize) -> Option<u8>
-    requires { length flags.now ≤ 256 }
-    ensures { result ≡ slice_get (marked 0 flags.now) n }
-{
-    let mut ahead = n;
-    for (i, flag) in flags.iter().enumerate() {
-        if *flag {
-            if ahead == 0 {
-                return Some(i as u8);
-            }
-            ahead -= 1;
-        }
-    }
-    None
-}
-
-// The call with this number, of those behind the size: the rules, then the arrows, then the finals.
-fn nth_addition<W: Coded>(draft: &Draft, strip: &[W], n: usize) -> Option<Call<W>>
-    requires { length (held draft.now).rules ≤ length strip.now }
-    ensures { result ≡ slice_get (listed None (map form_of (held draft.now).rules) strip.now (held draft.now).arrows (marked 0 (held draft.now).finals)) n }
-{
-    let rules = draft.rules();
-    if n < rules.len() {
-        return Some(Call::Rule(rules[n].into(), strip[n]));
-    }
-    let arrow = n - rules.len();
-    let arrows = draft.arrows();
-    if arrow < arrows.len() {
-        return Some(Call::Arrow(arrows[arrow]));
-    }
-    let state = nth_marked(draft.finals(), arrow - arrows.len())?;
-    Some(Call::Final(state))
-}
-
-// The call with this number, counted from 0, of those that make the draft's sheet.
-fn nth_call<W: Coded>(draft: &Draft, strip: &[W], n: usize) -> Option<Call<W>>
-    requires { length (held draft.now).rules ≤ length strip.now }
-    ensures { result ≡ slice_get (calls_of (held draft.now) strip.now) n }
-{
-    let Some(counts) = draft.sized() else {
-        return nth_addition(draft, strip, n);
-    };
-    if n == 0 {
-        return Some(Call::Size(counts));
-    }
-    nth_addition(draft, strip, n - 1)
-}
 
 // What is left of a room after a call's entries, if they fit in it.
 fn call_fits<W: Coded>(call: Call<W>, room: usize) -> Option<usize>
@@ -79,15 +30,12 @@ fn call_fits<W: Coded>(call: Call<W>, room: usize) -> Option<usize>
 }
 
 // What is left of a room after the entries of all calls, if they fit in it.
-fn all_fit<W: Coded>(draft: &Draft, strip: &[W], room: usize) -> Option<usize>
-    requires { length (held draft.now).rules ≤ length strip.now }
-    ensures { MatchOption result (room < length (stored W.Coded.bytes (held draft.now) strip.now)) (λ n. n + length (stored W.Coded.bytes (held draft.now) strip.now) ≡ room) }
+fn all_fit<W: Coded>(calls: Calls<'_, W>, room: usize) -> Option<usize>
+    ensures { MatchOption result (room < length (spells W.Coded.bytes (calls_left calls.entry))) (λ n. n + length (spells W.Coded.bytes (calls_left calls.entry)) ≡ room) }
 {
     let mut rest = room;
-    let mut n: usize = 0;
-    while let Some(call) = nth_call(draft, strip, n) {
+    for call in calls {
         rest = call_fits(call, rest)?;
-        n += 1;
     }
     Some(rest)
 }
@@ -124,16 +72,13 @@ fn write_call<W: Coded>(call: Call<W>, out: &mut [u8], at: usize) -> Option<usiz
 }
 
 // Writes the entries of all calls, which have room, and says where they end.
-fn write_all<W: Coded>(draft: &Draft, strip: &[W], out: &mut [u8]) -> Option<usize>
-    requires strip { length (held draft.now).rules ≤ length strip.now }
-    requires room { length (stored W.Coded.bytes (held draft.now) strip.now) ≤ length out.old }
-    ensures { MatchOption result ⊥ (Written 0 (length (stored W.Coded.bytes (held draft.now) strip.now)) (stored W.Coded.bytes (held draft.now) strip.now) out.old out.new) }
+fn write_all<W: Coded>(calls: Calls<'_, W>, out: &mut [u8]) -> Option<usize>
+    requires { length (spells W.Coded.bytes (calls_left calls)) ≤ length out.old }
+    ensures { MatchOption result ⊥ (Written 0 (length (spells W.Coded.bytes (calls_left calls.entry))) (spells W.Coded.bytes (calls_left calls.entry)) out.old out.new) }
 {
-    let mut at: usize = 0;
-    let mut n: usize = 0;
-    while let Some(call) = nth_call(draft, strip, n) {
+    let mut at = 0;
+    for call in calls {
         at = write_call(call, out, at)?;
-        n += 1;
     }
     Some(at)
 }
@@ -146,11 +91,7 @@ pub fn store<W: Coded>(draft: &Draft, strip: &[W], out: &mut [u8]) -> Result<usi
     ensures buffer { out.new ≡ (storing W.Coded.bytes (held draft.now) strip.now out.old).buffer }
     ensures back { IfOk result (λ n. (t : List W) → length (held draft.now).rules ≤ length t → LoadsAs W.Weight.meaning n (loading W.Coded.look (take n out.new) (at blank t)) (at (held draft.now) (laid (take (length (held draft.now).rules) strip.now) t))) }
 {
-    if strip.len() < draft.rules().len() {
-        return Err(StoreFault::ShortStrip);
-    }
-    let Some(_) = all_fit(draft, strip, out.len()) else {
-        return Err(StoreFault::NoRoom);
-    };
-    write_all(draft, strip, out).ok_or(StoreFault::NoRoom)
+    let calls = Calls::of(draft, strip).ok_or(StoreFault::ShortStrip)?;
+    all_fit(calls, out.len()).ok_or(StoreFault::NoRoom)?;
+    write_all(calls, out).ok_or(StoreFault::NoRoom)
 }

@@ -1,11 +1,11 @@
-use Rattle.std.proofs.Common.{◌-◌, length}
-use Rattle.drafts.specs.Held.{held}
-use Rattle.sheets.specs.Calls.{calls_of}
-use Rattle.storing.proofs.Writes.{Fitted}
+use Rattle.std.proofs.Common.{◌≡◌, ◌+◌, length}
+use Rattle.calls.specs.Spell.{spells}
+use Rattle.storing.specs.Left.{calls_left}
 use Rattle.storing.proofs.store.all_fit.Given as goal
 
+-- what is left of the room would be left of the whole room if only the calls that are still to come were not counted
 abbrev pub invariant-loop-call : goal.invariant-loop-call
-invariant-loop-call g l = Fitted g.W.Coded.bytes (calls_of (held l.draft) l.strip) l.room l.rest l.n
-
-abbrev pub decreases-loop-call : goal.decreases-loop-call
-decreases-loop-call g l = length (calls_of (held l.draft) l.strip) - l.n
+invariant-loop-call g l =
+    (goal.iterator-loop-call g).can_next l.call-iterator
+    × (goal.iterator-loop-call g).is_finite l.call-iterator
+    × (l.rest + length (spells g.W.Coded.bytes (calls_left l.fn.calls)) ≡ l.room + length (spells g.W.Coded.bytes (calls_left l.call-iterator)))

@@ -1,11 +1,13 @@
-use Rattle.std.proofs.Common.{◌-◌, length}
-use Rattle.drafts.specs.Held.{held}
-use Rattle.sheets.specs.Calls.{calls_of}
-use Rattle.storing.proofs.Writes.{Writes}
+use Rattle.std.proofs.Common.{◌≡◌, ◌+◌, length}
+use Rattle.reading.specs.Splice.{splice}
+use Rattle.calls.specs.Spell.{spells}
+use Rattle.storing.specs.Left.{calls_left}
 use Rattle.storing.proofs.store.write_all.Given as goal
 
+-- the calls that are still to come, written from `at` on, make the buffer what all calls from the start make it
 abbrev pub invariant-loop-call : goal.invariant-loop-call
-invariant-loop-call g l = Writes g.W.Coded.bytes (calls_of (held l.draft) l.strip) l.initial.out l.out l.at l.n
-
-abbrev pub decreases-loop-call : goal.decreases-loop-call
-decreases-loop-call g l = length (calls_of (held l.draft) l.strip) - l.n
+invariant-loop-call g l =
+    (goal.iterator-loop-call g).can_next l.call-iterator
+    × (goal.iterator-loop-call g).is_finite l.call-iterator
+    × (l.at + length (spells g.W.Coded.bytes (calls_left l.call-iterator)) ≡ length (spells g.W.Coded.bytes (calls_left l.fn.calls)))
+    × (splice l.at (spells g.W.Coded.bytes (calls_left l.call-iterator)) l.out ≡ splice 0 (spells g.W.Coded.bytes (calls_left l.fn.calls)) l.initial.out)
