@@ -53,7 +53,7 @@ fn number(word: Option<&str>) -> usize {
 }
 
 // The answer of a load of the case's input into a new draft, and of a store of that draft, with the whole buffer.
-fn loaded_and_stored<W: Coded>(rt: &HostRuntime, case: &Case) -> anyhow::Result<()> {
+fn loaded_and_stored<W: Coded>(rt: &(impl AllocGlobal + Print), case: &Case) -> anyhow::Result<()> {
     let heap = rt.alloc();
     let mut draft = Draft::new(heap)?;
     let mut strip = vec![in heap; W::zero(); case.count]?;
@@ -75,7 +75,7 @@ fn loaded_and_stored<W: Coded>(rt: &HostRuntime, case: &Case) -> anyhow::Result<
 }
 
 // What `weigh-length` prints of the case's input, which is repeated.
-fn reported(rt: &HostRuntime, case: &Case) -> anyhow::Result<()> {
+fn reported(rt: &(impl AllocGlobal + Print), case: &Case) -> anyhow::Result<()> {
     let heap = rt.alloc();
     let input = case.input.repeat(heap, case.count)?;
     let answer = run::<Length>(heap, &input)?;
@@ -84,7 +84,7 @@ fn reported(rt: &HostRuntime, case: &Case) -> anyhow::Result<()> {
 }
 
 // A match, since a kind's name is text, and its weights are a type.
-fn answered(rt: &HostRuntime, kind: &str, case: &Case) -> anyhow::Result<()> {
+fn answered(rt: &(impl AllocGlobal + Print), kind: &str, case: &Case) -> anyhow::Result<()> {
     match kind {
         "program" => reported(rt, case),
         "length" => loaded_and_stored::<Length>(rt, case),
@@ -96,7 +96,7 @@ fn answered(rt: &HostRuntime, kind: &str, case: &Case) -> anyhow::Result<()> {
     }
 }
 
-fn line(rt: &HostRuntime, text: &str) -> anyhow::Result<()> {
+fn line(rt: &(impl AllocGlobal + Print), text: &str) -> anyhow::Result<()> {
     if text.starts_with('#') {
         println!(rt; "{text}")?;
         return Ok(());
