@@ -29,7 +29,7 @@ struct Case {
     input: Vec<u8>,
 }
 
-// The digits are those that the lines are written in: `to_digit(16)` would also take capitals, which count as 0 here.
+// By hand, since all but these bytes count as 0: `to_digit(16)` takes capitals too, and the crate `hex` refuses.
 fn digit(byte: u8) -> u8 {
     match byte {
         b'0'..=b'9' => byte - b'0',
@@ -83,7 +83,7 @@ fn reported(rt: &(impl AllocGlobal + Print), case: &Case) -> anyhow::Result<()> 
     Ok(())
 }
 
-// A match, since a kind's name is text, and its weights are a type.
+// By a match on the name, since the weights of each kind are a type of their own.
 fn answered(rt: &(impl AllocGlobal + Print), kind: &str, case: &Case) -> anyhow::Result<()> {
     match kind {
         "program" => reported(rt, case),

@@ -6,7 +6,7 @@ use faults::LoadFault;
 use std::error::Error;
 use std::fmt;
 
-#[derive(Clone, Copy, Debug, Drop)]
+#[derive(Clone, Copy, Debug)]
 pub enum Refusal {
     // The input has more bytes than a run takes.
     TooLong,
