@@ -19,95 +19,72 @@ use std::io::{BufRead, BufReader};
 use storing::store::store;
 use weights::weight::Weight;
 
-// What a line asks for; the first number is the strip's cells, or how often the input is repeated.
+// What a line asks for.
 #[derive(Drop)]
 struct Case {
-    first: usize,
+    // The cells of the strip, or how often the input is repeated.
+    count: usize,
     lent: usize,
     buffer: usize,
     input: Vec<u8>,
 }
 
-fn digit(b: u8) -> u8 {
-    match b {
-        b'0'..=b'9' => b - b'0',
-        b'a'..=b'f' => b - b'a' + 10,
+// By hand, since all but these bytes count as 0: `to_digit(16)` takes capitals too, and the crate `hex` refuses.
+fn digit(byte: u8) -> u8 {
+    match byte {
+        b'0'..=b'9' => byte - b'0',
+        b'a'..=b'f' => byte - b'a' + 10,
         _ => 0,
     }
 }
 
-// The bytes that pairs of digits spell.
+// The bytes that pairs of digits spell; a last digit alone spells none.
 fn bytes(heap: Global, text: &str) -> Result<Vec<u8>, AllocError> {
-    let mut out = Vec::new(heap);
-    let mut high = None;
-    for b in text.bytes() {
-        let low = digit(b);
-        high = match high {
-            None => Some(low),
-            Some(high) => {
-                out.push((high << 4) | low)?;
-                None
-            }
-        };
-    }
-    Ok(out)
+    let (pairs, _) = text.as_bytes().as_chunks::<2>();
+    pairs
+        .iter()
+        .map(|[high, low]| (digit(*high) << 4) | digit(*low))
+        .collect(heap)
 }
 
-fn number(text: Option<&str>) -> usize {
-    match text {
-        Some(text) => text.parse::<usize>().unwrap_or(0),
-        None => 0,
-    }
+// The number that a word spells, or 0.
+fn number(word: Option<&str>) -> usize {
+    word.and_then(|word| word.parse().ok()).unwrap_or(0)
 }
 
 // The answer of a load of the case's input into a new draft, and of a store of that draft, with the whole buffer.
-fn loaded_and_stored<W: Coded>(rt: &HostRuntime, case: &Case) -> anyhow::Result<()> {
+fn loaded_and_stored<W: Coded>(rt: &(impl AllocGlobal + Print), case: &Case) -> anyhow::Result<()> {
     let heap = rt.alloc();
     let mut draft = Draft::new(heap)?;
-    let mut strip = filled(heap, W::zero(), case.first)?;
-    match load(&mut draft, &mut strip, case.input.as_slice()) {
+    let mut strip = vec![in heap; W::zero(); case.count]?;
+    match load(&mut draft, &mut strip, &case.input) {
         Ok(used) => println!(rt; "loaded {used}")?,
         Err(fault) => println!(rt; "{fault}")?,
     }
-    let mut out = filled(heap, 0xee, case.buffer)?;
+    let mut out = vec![in heap; 0xee; case.buffer]?;
     let lent = case.lent.min(strip.len());
-    match store(&draft, &strip.as_slice()[0..lent], &mut out) {
+    match store(&draft, &strip[..lent], &mut out) {
         Ok(used) => print!(rt; "stored {used}")?,
-        Err(fault) => {
-            let number = fault.number();
-            print!(rt; "refused {number}")?;
-        }
+        Err(fault) => print!(rt; "refused {}", fault.number())?,
     }
-    for b in out.iter() {
-        let b = *b;
-        print!(rt; " {b:02x}")?;
+    for byte in &out {
+        print!(rt; " {byte:02x}")?;
     }
-    println!(rt; "")?;
+    println!(rt)?;
     Ok(())
-}
-
-fn filled<T: Copy>(heap: Global, x: T, n: usize) -> Result<Vec<T>, AllocError> {
-    let mut v = Vec::new(heap);
-    for _ in 0..n {
-        v.push(x)?;
-    }
-    Ok(v)
 }
 
 // What `weigh-length` prints of the case's input, which is repeated.
-fn reported(rt: &HostRuntime, case: &Case) -> anyhow::Result<()> {
+fn reported(rt: &(impl AllocGlobal + Print), case: &Case) -> anyhow::Result<()> {
     let heap = rt.alloc();
-    let mut input = Vec::new(heap);
-    for _ in 0..case.first {
-        input.extend_from_slice(case.input.as_slice())?;
-    }
-    let report = run::<Length>(heap, input.as_slice())?;
-    let lines = Lines(&report);
-    print!(rt; "{lines}")?;
+    let input = case.input.repeat(heap, case.count)?;
+    let answer = run::<Length>(heap, &input)?;
+    print!(rt; "{}", Lines(&answer))?;
     Ok(())
 }
 
-fn answered(rt: &HostRuntime, kind: &str, case: &Case) -> anyhow::Result<()> {
+// By a match on the name, since the weights of each kind are a type of their own.
+fn answered(rt: &(impl AllocGlobal + Print), kind: &str, case: &Case) -> anyhow::Result<()> {
     match kind {
         "program" => reported(rt, case),
         "length" => loaded_and_stored::<Length>(rt, case),
@@ -119,35 +96,25 @@ fn answered(rt: &HostRuntime, kind: &str, case: &Case) -> anyhow::Result<()> {
     }
 }
 
-fn line(rt: &HostRuntime, text: &str) -> anyhow::Result<()> {
+fn line(rt: &(impl AllocGlobal + Print), text: &str) -> anyhow::Result<()> {
     if text.starts_with('#') {
         println!(rt; "{text}")?;
         return Ok(());
     }
     let mut words = text.split(' ');
-    let Some(kind) = words.next() else {
-        return Ok(());
+    let kind = words.next().unwrap_or("");
+    let case = Case {
+        count: number(words.next()),
+        lent: number(words.next()),
+        buffer: number(words.next()),
+        input: bytes(rt.alloc(), words.next().unwrap_or(""))?,
     };
-    let first = number(words.next());
-    let lent = number(words.next());
-    let buffer = number(words.next());
-    let input = bytes(rt.alloc(), words.next().unwrap_or(""))?;
-    answered(
-        rt,
-        kind,
-        &Case {
-            first,
-            lent,
-            buffer,
-            input,
-        },
-    )
+    answered(rt, kind, &case)
 }
 
 fn main(rt: HostRuntime) -> anyhow::Result<()> {
     for text in BufReader::new(rt.alloc(), rt.stdin())?.lines(rt.alloc()) {
-        let text = text?;
-        line(&rt, text.as_str())?;
+        line(&rt, &text?)?;
     }
     Ok(())
 }

@@ -9,14 +9,14 @@ use sheets::fault::SheetFault;
 use std::fmt;
 
 // Which entry is at fault: its number, counted from 1, and the place where it begins, counted from 0.
-#[derive(Clone, Copy, Drop)]
+#[derive(Clone, Copy, Debug, Drop)]
 pub struct Spot {
     pub entry: usize,
     pub place: usize,
 }
 
 // What refuses: the reading of an entry, or the call that the entry spells.
-#[derive(Clone, Copy, Drop)]
+#[derive(Clone, Copy, Debug, Drop)]
 pub enum Lower {
     Entry(EntryFault),
     Sheet(SheetFault),
@@ -29,7 +29,7 @@ pub enum Layer {
     Sheet,
 }
 
-#[derive(Clone, Copy, Drop)]
+#[derive(Clone, Copy, Debug, Drop)]
 pub struct LoadFault {
     pub spot: Spot,
     pub lower: Lower,

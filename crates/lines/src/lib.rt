@@ -2,7 +2,8 @@
 #![tactic(auto)]
 
 use lengths::weight::Length;
-use program::report::{Loaded, Report};
+use program::loaded::Loaded;
+use program::refusal::Refusal;
 use sheets::call::{Arrow, Counts, Right, Rule};
 use std::fmt;
 
@@ -76,16 +77,15 @@ fn sheet<W: fmt::Write>(loaded: &Loaded<Length>, f: &mut fmt::Formatter<W>) -> f
     finals(loaded.draft.finals(), f)
 }
 
-// A report as text.
+// What a run answers, as text.
 #[derive(Drop)]
-pub struct Lines<'a>(pub &'a Report<Length>);
+pub struct Lines<'a>(pub &'a Result<Loaded<Length>, Refusal>);
 
 impl fmt::Display for Lines<'_> {
     fn fmt<W: fmt::Write>(&self, f: &mut fmt::Formatter<W>) -> fmt::Result {
         match self.0 {
-            Report::TooLong => writeln!(f, "input too long"),
-            Report::Refused(fault) => writeln!(f, "{fault}"),
-            Report::Loaded(loaded) => sheet(loaded, f),
+            Ok(loaded) => sheet(loaded, f),
+            Err(refusal) => writeln!(f, "{refusal}"),
         }
     }
 }

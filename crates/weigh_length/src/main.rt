@@ -3,18 +3,17 @@
 
 use lengths::weight::Length;
 use lines::Lines;
-use program::run::run;
+use program::run::{LONGEST_INPUT, run};
 use std::io::Read;
-
-// One byte more than is taken, so that a longer input shows.
-const ENOUGH: u64 = 16_385;
 
 fn main(rt: HostRuntime) -> anyhow::Result<()> {
     let heap = rt.alloc();
     let mut input = Vec::new(heap);
-    rt.stdin().take(ENOUGH).read_to_end(&mut input)?;
-    let report = run::<Length>(heap, input.as_slice())?;
-    let lines = Lines(&report);
-    print!(rt; "{lines}")?;
+    // One byte more than a run takes, so that a longer input shows.
+    rt.stdin()
+        .take(LONGEST_INPUT as u64 + 1)
+        .read_to_end(&mut input)?;
+    let answer = run::<Length>(heap, &input)?;
+    print!(rt; "{}", Lines(&answer))?;
     Ok(())
 }
