@@ -3,7 +3,6 @@ use Rattle.std.specs.Prelude.{ℕ, cond, List, length, replicate, Ok, Err, vec_i
 use Rattle.codec.specs.Look.{Look}
 use Rattle.sheets.specs.Sheet.{blank}
 use Rattle.sheets.specs.Questions.{State, at}
-use Rattle.drafts.specs.Held.{held}
 use Rattle.faults.specs.declared.LoadFault.{LoadFault}
 use Rattle.loading.specs.Load.{loading}
 use Rattle.program.specs.declared.report.Report.{Report}
@@ -29,4 +28,4 @@ outcome look cell input =
 abbrev pub outcome_of : {W : Type 0} → Report W → Outcome W
 outcome_of TooLong = too_long
 outcome_of (Refused f) = refused f
-outcome_of (Whole x) = loaded (at (held x.draft) (vec_items x.strip))
+outcome_of (Whole x) = loaded (at x.draft (vec_items x.strip))

@@ -1,7 +1,6 @@
 use Rattle.std.proofs.Common.{ap, ◌∙◌}
 use Rattle.sheets.specs.Questions.{at}
 use Rattle.std.proofs.lemmas.List.{with_items_is}
-use Rattle.drafts.specs.Held.{held}
 use Rattle.program.proofs.Outcomes.{is_long, is_loaded, is_refused}
 use Rattle.program.proofs.run.run.Goals as goal
 
@@ -18,9 +17,9 @@ returns-in-Ok g c =
     let whole = with_items_is strip last (c.load.auto.strip ∙ c.as_mut_slice.ensures.len) in (
       cell,
       c.zero-cell.ensures,
-      is_loaded g.W.Coded.look cell c.args.input.now c.if-input-gt-LONGEST_INPUT.false (held c.in_ok-draft.draft) _ c.in_ok-draft.ensures
+      is_loaded g.W.Coded.look cell c.args.input.now c.if-input-gt-LONGEST_INPUT.false c.in_ok-draft.draft _ c.in_ok-draft.ensures
           (c.as_mut_slice.ensures.value ∙ c.in_ok-strip.ensures)
-          _ c.in-Ok.field-0 (ap (at (held c.load.new.draft)) whole ∙ c.in-Ok.ensures.state) c.in-Ok.ensures.answer,
+          _ c.in-Ok.field-0 (ap (at c.load.new.draft) whole ∙ c.in-Ok.ensures.state) c.in-Ok.ensures.answer,
     )
 
 pub returns-in-Err : goal.returns-in-Err
@@ -28,7 +27,7 @@ returns-in-Err g c =
     let cell = c.zero-cell.result in (
       cell,
       c.zero-cell.ensures,
-      is_refused g.W.Coded.look cell c.args.input.now c.if-input-gt-LONGEST_INPUT.false (held c.in_ok-draft.draft) _ c.in_ok-draft.ensures
+      is_refused g.W.Coded.look cell c.args.input.now c.if-input-gt-LONGEST_INPUT.false c.in_ok-draft.draft _ c.in_ok-draft.ensures
           (c.as_mut_slice.ensures.value ∙ c.in_ok-strip.ensures)
           _ c.in-Err.fault c.in-Err.ensures.state c.in-Err.ensures.answer,
     )
