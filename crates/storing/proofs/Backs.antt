@@ -17,9 +17,7 @@ use Rattle.sheets.specs.declared.call.Right.{Right}
 use Rattle.sheets.specs.declared.call.RuleForm.{RuleForm}
 use Rattle.sheets.specs.declared.call.Call.{Call}
 use Rattle.sheets.specs.declared.call.Call.TheVariants.{Size, Rule as RuleCall, Arrow as ArrowCall, Final}
-use Rattle.drafts.specs.declared.draft.Draft.{Draft}
-use Rattle.sheets.specs.Sheet.{Sheet, blank, few_controls, few_symbols, few_states, counts_fit, right_of, rule_controls, rule_symbols}
-use Rattle.drafts.specs.Held.{held}
+use Rattle.sheets.specs.Sheet.{Sheet, Fits, blank, few_controls, few_symbols, few_states, counts_fit, right_of, rule_controls, rule_symbols}
 use Rattle.sheets.specs.Questions.{State, at, step, asked, onto, size_step, arrow_step, final_step, shaped_step, with_rule, rule_from}
 use Rattle.sheets.specs.Calls.{bound, replay, form_of, marked, size_calls, rule_calls, calls_of, laid}
 use Rattle.drafts.proofs.Replays.{bound_ok, replays}
@@ -202,7 +200,7 @@ module _ {W V : Type 0} (k : Code W V) where
         means = ap (λ v. v.strip) r.state;
       }
 
--- the calls of a draft are small
+-- the calls of a sheet that fits are small
 module _ {W : Type 0} where
   small_join : (xs ys : List (Call W)) → AllSmall xs → AllSmall ys → AllSmall (xs ++ ys)
   small_join [] ys p q = q
@@ -225,45 +223,44 @@ module _ {W : Type 0} where
   small_map f h [] = tt
   small_map f h (x ∷ xs) = (h x, small_map f h xs)
 
-  small_calls : (d : Draft) (ws : List W) → AllSmall (calls_of (held d) ws)
-  small_calls d ws =
-      let s = held d in
-      small_size s.counts _ d.limits
+  small_calls : (s : Sheet) (ws : List W) → Fits s → AllSmall (calls_of s ws)
+  small_calls s ws f =
+      small_size s.counts _ f.limits
       (small_join (rule_calls (map form_of s.rules) ws) _ (small_rules (map form_of s.rules) ws)
       (small_join (map ArrowCall s.arrows) _ (small_map ArrowCall (λ a. tt) s.arrows) (small_map Final (λ q. tt) (marked 0 s.finals))))
 
 -- a stored sheet loads as itself
-loads_back : {W V : Type 0} (k : Code W V) (d : Draft) (ws t : List W) (before behind : List ℕ) (n : ℕ)
-    → length (held d).rules ≤ length ws → Written 0 (length (stored k.bytes (held d) ws)) (stored k.bytes (held d) ws) before behind n → length (held d).rules ≤ length t
-    → LoadsAs k.meaning n (loading k.look (take n behind) (at blank t)) (at (held d) (laid (take (length (held d).rules) ws) t))
-loads_back k d ws t before behind n enough w room =
-    let bs = stored k.bytes (held d) ws in
+loads_back : {W V : Type 0} (k : Code W V) (s : Sheet) (f : Fits s) (ws t : List W) (before behind : List ℕ) (n : ℕ)
+    → length s.rules ≤ length ws → Written 0 (length (stored k.bytes s ws)) (stored k.bytes s ws) before behind n → length s.rules ≤ length t
+    → LoadsAs k.meaning n (loading k.look (take n behind) (at blank t)) (at s (laid (take (length s.rules) ws) t))
+loads_back k s f ws t before behind n enough w room =
+    let bs = stored k.bytes s ws in
     let count : n ≡ length bs = omega (arith, w.next) in
     let front : take n behind ≡ bs = ap (take n) w.put ∙ take_at bs (drop (0 + length bs) before) n (sym count) in
-    let r = loads_as k (calls_of (held d) ws) (at blank t) (at (held d) (laid (take (length (held d).rules) ws) t)) (small_calls d ws) (replays d ws t enough room) in
+    let r = loads_as k (calls_of s ws) (at blank t) (at s (laid (take (length s.rules) ws) t)) (small_calls s ws f) (replays s ws t f enough room) in
     rw (front, count) r
 
 -- a store that has the strip and the room
-module _ {W V : Type 0} (k : Code W V) (d : Draft) (ws : List W) (out next : List ℕ) (enough : length (held d).rules ≤ length ws) where
+module _ {W V : Type 0} (k : Code W V) (s : Sheet) (f : Fits s) (ws : List W) (out next : List ℕ) (enough : length s.rules ≤ length ws) where
   pub record Stores (r : Result ℕ StoreFault) : Type 0 where
-    pub answer : r ≡ (storing k.bytes (held d) ws out).answer
-    pub buffer : next ≡ (storing k.bytes (held d) ws out).buffer
-    pub back : IfOk r (λ n. (t : List W) → length (held d).rules ≤ length t
-        → LoadsAs k.meaning n (loading k.look (take n next) (at blank t)) (at (held d) (laid (take (length (held d).rules) ws) t)))
+    pub answer : r ≡ (storing k.bytes s ws out).answer
+    pub buffer : next ≡ (storing k.bytes s ws out).buffer
+    pub back : IfOk r (λ n. (t : List W) → length s.rules ≤ length t
+        → LoadsAs k.meaning n (loading k.look (take n next) (at blank t)) (at s (laid (take (length s.rules) ws) t)))
 
   abbrev bs : List ℕ
-  bs = stored k.bytes (held d) ws
+  bs = stored k.bytes s ws
 
   all_written : (n : ℕ) → Written 0 (length bs) bs out next n → Stores (Ok n)
   all_written n w =
-      let e : storing k.bytes (held d) ws out ≡ record { answer = Ok (length bs); buffer = splice 0 bs out } =
+      let e : storing k.bytes s ws out ≡ record { answer = Ok (length bs); buffer = splice 0 bs out } =
       ap (λ b. cond b (put_in bs out) (refused ShortStrip out)) (le-leb _ _ enough)
       ∙ ap (λ b. cond b (record { answer = Ok (length bs); buffer = splice 0 bs out }) (refused NoRoom out)) (le-leb _ _ (omega (arith, w.room))) in
       let count : n ≡ length bs = omega (arith, w.next) in
       record {
         answer = ap Ok count ∙ ap (λ x. x.answer) (sym e);
         buffer = w.put ∙ ap (λ x. x.buffer) (sym e);
-        back = λ t room. loads_back k d ws t out next n enough w room;
+        back = λ t room. loads_back k s f ws t out next n enough w room;
       }
 
   pub stores : (o : Option ℕ) (r : Result ℕ StoreFault) → r ≡ ok_or o NoRoom → MatchOption o ⊥ (Written 0 (length bs) bs out next) → Stores r

@@ -3,7 +3,6 @@ ghost use Rattle.std.specs.Prelude.{◌≡◌, ◌+◌, ◌<◌, ◌≤◌, List
 ghost use Rattle.std.specs.List.{slice_get};
 ghost use Rattle.reading.specs.Splice.{Written};
 ghost use Rattle.sheets.specs.Sheet.{blank};
-ghost use Rattle.drafts.specs.Held.{held};
 ghost use Rattle.sheets.specs.Questions.{at};
 ghost use Rattle.sheets.specs.Calls.{form_of, marked, listed, calls_of, laid};
 ghost use Rattle.calls.specs.Spell.{spell};
@@ -55,8 +54,8 @@ fn nth_marked(flags: &[bool], n: usize) -> Option<u8>
 
 // The call with this number, of those behind the size: the rules, then the arrows, then the finals.
 fn nth_addition<W: Coded>(draft: &Draft, strip: &[W], n: usize) -> Option<Call<W>>
-    requires { length (held draft.now).rules ≤ length strip.now }
-    ensures { result ≡ slice_get (listed None (map form_of (held draft.now).rules) strip.now (held draft.now).arrows (marked 0 (held draft.now).finals)) n }
+    requires { length draft.now.rules ≤ length strip.now }
+    ensures { result ≡ slice_get (listed None (map form_of draft.now.rules) strip.now draft.now.arrows (marked 0 draft.now.finals)) n }
 {
     let rules = draft.rules();
     if n < rules.len() {
@@ -73,8 +72,8 @@ fn nth_addition<W: Coded>(draft: &Draft, strip: &[W], n: usize) -> Option<Call<W
 
 // The call with this number, counted from 0, of those that make the draft's sheet.
 fn nth_call<W: Coded>(draft: &Draft, strip: &[W], n: usize) -> Option<Call<W>>
-    requires { length (held draft.now).rules ≤ length strip.now }
-    ensures { result ≡ slice_get (calls_of (held draft.now) strip.now) n }
+    requires { length draft.now.rules ≤ length strip.now }
+    ensures { result ≡ slice_get (calls_of draft.now strip.now) n }
 {
     let Some(counts) = draft.sized() else {
         return nth_addition(draft, strip, n);
@@ -99,8 +98,8 @@ fn call_fits<W: Coded>(call: Call<W>, room: usize) -> Option<usize>
 
 // What is left of a room after the entries of all calls, if they fit in it.
 fn all_fit<W: Coded>(draft: &Draft, strip: &[W], room: usize) -> Option<usize>
-    requires { length (held draft.now).rules ≤ length strip.now }
-    ensures { MatchOption result (room < length (stored W.Coded.bytes (held draft.now) strip.now)) (λ n. n + length (stored W.Coded.bytes (held draft.now) strip.now) ≡ room) }
+    requires { length draft.now.rules ≤ length strip.now }
+    ensures { MatchOption result (room < length (stored W.Coded.bytes draft.now strip.now)) (λ n. n + length (stored W.Coded.bytes draft.now strip.now) ≡ room) }
 {
     let mut rest = room;
     let mut n: usize = 0;
@@ -144,9 +143,9 @@ fn write_call<W: Coded>(call: Call<W>, out: &mut [u8], at: usize) -> Option<usiz
 
 // Writes the entries of all calls, which have room, and says where they end.
 fn write_all<W: Coded>(draft: &Draft, strip: &[W], out: &mut [u8]) -> Option<usize>
-    requires strip { length (held draft.now).rules ≤ length strip.now }
-    requires room { length (stored W.Coded.bytes (held draft.now) strip.now) ≤ length out.old }
-    ensures { MatchOption result ⊥ (Written 0 (length (stored W.Coded.bytes (held draft.now) strip.now)) (stored W.Coded.bytes (held draft.now) strip.now) out.old out.new) }
+    requires strip { length draft.now.rules ≤ length strip.now }
+    requires room { length (stored W.Coded.bytes draft.now strip.now) ≤ length out.old }
+    ensures { MatchOption result ⊥ (Written 0 (length (stored W.Coded.bytes draft.now strip.now)) (stored W.Coded.bytes draft.now strip.now) out.old out.new) }
 {
     let mut at: usize = 0;
     let mut n: usize = 0;
@@ -161,9 +160,9 @@ fn write_all<W: Coded>(draft: &Draft, strip: &[W], out: &mut [u8]) -> Option<usi
 // they are. A refused store writes nothing, so it asks for all the room before it writes. What was stored loads as
 // itself into a new draft whose strip has a cell for each rule.
 pub fn store<W: Coded>(draft: &Draft, strip: &[W], out: &mut [u8]) -> Result<usize, StoreFault>
-    ensures answer { result ≡ (storing W.Coded.bytes (held draft.now) strip.now out.old).answer }
-    ensures buffer { out.new ≡ (storing W.Coded.bytes (held draft.now) strip.now out.old).buffer }
-    ensures back { IfOk result (λ n. (t : List W) → length (held draft.now).rules ≤ length t → LoadsAs W.Weight.meaning n (loading W.Coded.look (take n out.new) (at blank t)) (at (held draft.now) (laid (take (length (held draft.now).rules) strip.now) t))) }
+    ensures answer { result ≡ (storing W.Coded.bytes draft.now strip.now out.old).answer }
+    ensures buffer { out.new ≡ (storing W.Coded.bytes draft.now strip.now out.old).buffer }
+    ensures back { IfOk result (λ n. (t : List W) → length draft.now.rules ≤ length t → LoadsAs W.Weight.meaning n (loading W.Coded.look (take n out.new) (at blank t)) (at draft.now (laid (take (length draft.now.rules) strip.now) t))) }
 {
     if strip.len() < draft.rules().len() {
         return Err(StoreFault::ShortStrip);

@@ -1,11 +1,10 @@
 use Rattle.std.proofs.Common.{◌-◌, length}
-use Rattle.drafts.specs.Held.{held}
 use Rattle.sheets.specs.Calls.{calls_of}
 use Rattle.storing.proofs.Writes.{Fitted}
 use Rattle.storing.proofs.store.all_fit.Given as goal
 
 abbrev pub invariant-loop-call : goal.invariant-loop-call
-invariant-loop-call g l = Fitted g.W.Coded.bytes (calls_of (held l.draft) l.strip) l.room l.rest l.n
+invariant-loop-call g l = Fitted g.W.Coded.bytes (calls_of l.draft l.strip) l.room l.rest l.n
 
 abbrev pub decreases-loop-call : goal.decreases-loop-call
-decreases-loop-call g l = length (calls_of (held l.draft) l.strip) - l.n
+decreases-loop-call g l = length (calls_of l.draft l.strip) - l.n
