@@ -3,7 +3,6 @@ use Rattle.std.specs.Prelude.{ℕ, if◌then◌else◌, List, length, replicate,
 use Rattle.codec.specs.Look.{Look}
 use Rattle.sheets.specs.Sheet.{blank}
 use Rattle.sheets.specs.Questions.{State, at}
-use Rattle.drafts.specs.Held.{held}
 use Rattle.faults.specs.declared.LoadFault.{LoadFault}
 use Rattle.loading.specs.Load.{loading}
 use Rattle.program.specs.declared.loaded.Loaded.{Loaded}
@@ -30,5 +29,5 @@ outcome look cell input = if nat_le (length input) 16384 then load_outcome look 
 
 -- the outcome that an answer tells
 abbrev pub outcome_of : {W : Type 0} → Result (Loaded W) Refusal → Outcome W
-outcome_of (Ok x) = Ok (at (held x.draft) (vec_items x.strip))
+outcome_of (Ok x) = Ok (at x.draft (vec_items x.strip))
 outcome_of (Err refusal) = Err refusal

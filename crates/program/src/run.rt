@@ -1,7 +1,6 @@
 //! From an input to its sheet, or to why it is refused.
 ghost use Rattle.std.specs.Prelude.{◌≡◌, replicate, IfOk};
 ghost use Rattle.sheets.specs.Questions.{at};
-ghost use Rattle.drafts.specs.Held.{held};
 ghost use Rattle.program.specs.Outcome.{load_outcome, outcome, outcome_of};
 
 use crate::loaded::Loaded;
@@ -31,7 +30,7 @@ fn load_into<W: Coded>(
     mut strip: Vec<W>,
     input: &[u8],
 ) -> Result<Loaded<W>, Refusal>
-    ensures { outcome_of result ≡ load_outcome W.Coded.look (at (held draft) strip.items) input.now }
+    ensures { outcome_of result ≡ load_outcome W.Coded.look (at draft strip.items) input.now }
 {
     load(&mut draft, strip.as_mut_slice(), input)?;
     Ok(Loaded { draft, strip })

@@ -18,9 +18,7 @@ use Rattle.sheets.specs.declared.call.Right.{Right}
 use Rattle.sheets.specs.declared.call.RuleForm.{RuleForm}
 use Rattle.sheets.specs.declared.call.Call.{Call}
 use Rattle.sheets.specs.declared.call.Call.TheVariants.{Size, Rule as RuleCall, Arrow as ArrowCall, Final}
-use Rattle.drafts.specs.declared.draft.Draft.{Draft}
-use Rattle.sheets.specs.Sheet.{Sheet, blank, few_controls, few_symbols, few_states, counts_fit, right_of, rule_controls, rule_symbols}
-use Rattle.drafts.specs.Held.{held}
+use Rattle.sheets.specs.Sheet.{Sheet, Fits, blank, few_controls, few_symbols, few_states, counts_fit, right_of, rule_controls, rule_symbols}
 use Rattle.sheets.specs.Questions.{State, at, step, asked, onto, size_step, arrow_step, final_step, shaped_step, with_rule, rule_from}
 use Rattle.sheets.specs.Calls.{bound, replay, form_of, marked, size_calls, rule_calls, calls_of, laid}
 use Rattle.drafts.proofs.Replays.{bound_ok, replays}
@@ -210,24 +208,23 @@ module _ {W : Type 0} where
   small_rules (f ∷ fs) [] = All-nil Small
   small_rules (f ∷ fs) (w ∷ ws) = All-cons Small (RuleCall f w) (rule_calls fs ws) tt (small_rules fs ws)
 
-  small_calls : (d : Draft) (ws : List W) → All Small (calls_of (held d) ws)
-  small_calls d ws =
-      let s = held d in
-      All-append Small _ _ (small_size s.counts d.limits)
+  small_calls : (s : Sheet) (ws : List W) → Fits s → All Small (calls_of s ws)
+  small_calls s ws f =
+      All-append Small _ _ (small_size s.counts f.limits)
       (All-append Small _ _ (small_rules (map form_of s.rules) ws)
       (All-append Small _ _ (All-map Small ArrowCall s.arrows (λ k e h. tt)) (All-map Small Final (marked 0 s.finals) (λ k e h. tt))))
 
--- what is written for a draft, whose rules have the weights ws, loads as that draft
-module _ {W V : Type 0} (k : Code W V) (d : Draft) (ws : List W) where
+-- what is written of a sheet, whose rules have the weights ws, loads as that sheet
+module _ {W V : Type 0} (k : Code W V) (s : Sheet) (ws : List W) where
   abbrev pub bs : List ℕ
-  bs = stored k.bytes (held d) ws
+  bs = stored k.bytes s ws
 
   abbrev pub LoadsBack : List ℕ → ℕ → Type 0
-  LoadsBack out n = (t : List W) → length (held d).rules ≤ length t → LoadsAs k.meaning n (loading k.look (take n out) (at blank t)) (at (held d) (laid (take (length (held d).rules) ws) t))
+  LoadsBack out n = (t : List W) → length s.rules ≤ length t → LoadsAs k.meaning n (loading k.look (take n out) (at blank t)) (at s (laid (take (length s.rules) ws) t))
 
-  pub loads_back : length (held d).rules ≤ length ws → (before out : List ℕ) (n : ℕ) → Written 0 (length bs) bs before out n → LoadsBack out n
-  loads_back enough before out n w t room =
+  pub loads_back : Fits s → length s.rules ≤ length ws → (before out : List ℕ) (n : ℕ) → Written 0 (length bs) bs before out n → LoadsBack out n
+  loads_back f enough before out n w t room =
       let count : n ≡ length bs = omega (arith, w.next) in
       let front : take n out ≡ bs = ap (take n) w.put ∙ take_at bs (drop (0 + length bs) before) n (sym count) in
-      let r = loads_as k (calls_of (held d) ws) (at blank t) (at (held d) (laid (take (length (held d).rules) ws) t)) (small_calls d ws) (replays d ws t enough room) in
+      let r = loads_as k (calls_of s ws) (at blank t) (at s (laid (take (length s.rules) ws) t)) (small_calls s ws f) (replays s ws t f enough room) in
       rw (front, count) r

@@ -46,13 +46,14 @@ impl<'a, W: Copy> Calls<'a, W> {
     ghost use Rattle.std.specs.Prelude.{◌≡◌, ◌≤◌, ◌↔◌, length, IsSome, IfSome};
     ghost use Rattle.std.specs.Iterator.{YieldsFirst};
     ghost use Rattle.sheets.specs.Calls.{calls_of};
-    ghost use Rattle.drafts.specs.Held.{held};
+    ghost use Rattle.sheets.specs.Sheet.{Fits};
     ghost use Rattle.storing.specs.Left.{calls_left};
 
     // All calls that make the draft's sheet, if the strip has a cell for each rule.
     pub(crate) fn of(draft: &'a Draft, strip: &'a [W]) -> Option<Self>
-        ensures enough { IsSome result ↔ (length (held draft.now).rules ≤ length strip.now) }
-        ensures all { IfSome result (λ calls. calls_left calls ≡ calls_of (held draft.now) strip.now) }
+        ensures enough { IsSome result ↔ (length draft.now.rules ≤ length strip.now) }
+        ensures fits { Fits draft.now }
+        ensures all { IfSome result (λ calls. calls_left calls ≡ calls_of draft.now strip.now) }
     {
         let rules = draft.rules();
         if strip.len() < rules.len() {

@@ -2,7 +2,6 @@
 ghost use Rattle.std.specs.Prelude.{◌≡◌, ◌+◌, ◌<◌, ◌≤◌, List, length, take, IfOk, MatchOption};
 ghost use Rattle.reading.specs.Splice.{Written};
 ghost use Rattle.sheets.specs.Sheet.{blank};
-ghost use Rattle.drafts.specs.Held.{held};
 ghost use Rattle.sheets.specs.Questions.{at};
 ghost use Rattle.sheets.specs.Calls.{laid};
 ghost use Rattle.calls.specs.Spell.{spell, spells};
@@ -87,9 +86,9 @@ fn write_all<W: Coded>(calls: Calls<'_, W>, out: &mut [u8]) -> Option<usize>
 // they are. A refused store writes nothing, so it asks for all the room before it writes. What was stored loads as
 // itself into a new draft whose strip has a cell for each rule.
 pub fn store<W: Coded>(draft: &Draft, strip: &[W], out: &mut [u8]) -> Result<usize, StoreFault>
-    ensures answer { result ≡ (storing W.Coded.bytes (held draft.now) strip.now out.old).answer }
-    ensures buffer { out.new ≡ (storing W.Coded.bytes (held draft.now) strip.now out.old).buffer }
-    ensures back { IfOk result (λ n. (t : List W) → length (held draft.now).rules ≤ length t → LoadsAs W.Weight.meaning n (loading W.Coded.look (take n out.new) (at blank t)) (at (held draft.now) (laid (take (length (held draft.now).rules) strip.now) t))) }
+    ensures answer { result ≡ (storing W.Coded.bytes draft.now strip.now out.old).answer }
+    ensures buffer { out.new ≡ (storing W.Coded.bytes draft.now strip.now out.old).buffer }
+    ensures back { IfOk result (λ n. (t : List W) → length draft.now.rules ≤ length t → LoadsAs W.Weight.meaning n (loading W.Coded.look (take n out.new) (at blank t)) (at draft.now (laid (take (length draft.now.rules) strip.now) t))) }
 {
     let calls = Calls::of(draft, strip).ok_or(StoreFault::ShortStrip)?;
     all_fit(calls, out.len()).ok_or(StoreFault::NoRoom)?;
