@@ -6,7 +6,7 @@ use std::error::Error;
 use std::fmt;
 
 // Each refusal by its number. What it asks for stands in its words, below.
-#[derive(Clone, Copy, Debug, PartialEq, Eq)]
+#[derive(Clone, Copy, Debug, Drop, PartialEq, Eq)]
 pub enum SheetFault {
     Sized = 1,
     Controls = 2,
