@@ -6,8 +6,8 @@
 //! 3. An `impl` of `Weight` whose functions answer with the algebra's values.
 //!
 //! A one-valued algebra keeps every clause of the interface, so each function here has a clause of its own as
-//! well, which says in numbers what it answers. A clause of its own stands beside the interface's clause,
-//! repeated here as `means`.
+//! well, which says in numbers what it answers. Clauses of its own stand in place of the interface's where it is
+//! called on `Width` itself, so the interface's clause is repeated here as `means`.
 #![tactic(auto)]
 
 ghost use Rattle.std.specs.Prelude.{◌≡◌, min, max, Decides};
@@ -18,9 +18,10 @@ use weights::weight::Weight;
 const WIDEST: u16 = u16::MAX;
 
 // How wide a load passes a run: as wide as its narrowest rule. Nothing passes at width 0, which is no run at all.
-#[derive(Clone, Copy)]
+#[derive(Clone, Copy, Debug, PartialEq, Eq)]
 pub struct Width(pub u16);
 
+#[tactic(auto, using(crate::specs::Widths::width_is, crate::proofs::Stored::width_same))]
 impl Weight for Width {
     ghost algebra = { widths };
 
@@ -61,6 +62,6 @@ impl Weight for Width {
         ensures means { Decides result (width self.0 ≡ width other.0) }
         ensures value { Decides result (self.0 ≡ other.0) }
     {
-        self.0 == other.0
+        self == other
     }
 }

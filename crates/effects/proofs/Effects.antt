@@ -1,5 +1,5 @@
 -- What unions, intersections and differences of sets do to each fact.
-use Rattle.std.proofs.Common.{◌≡◌, ℕ, ◌^◌, ◌<◌, Bool, true, false, not, ◌&&◌, ◌||◌, sym, refl, ap, ◌∙◌, true≢false, arith}
+use Rattle.std.proofs.Common.{◌≡◌, ℕ, ◌^◌, ◌<◌, Bool, false, not, ◌&&◌, ◌||◌, sym, ap, ◌∙◌, arith}
 use lib.Bits.{bit_and}
 use Rattle.std.proofs.lemmas.Nat.{and_le_r, or_lt}
 use Rattle.bits.specs.Bit.{bit}
@@ -12,37 +12,16 @@ use Rattle.effects.specs.Sets.{union, intersection, others, difference}
 -- ---- one fact, by whether it is in each of the four sets
 
 effect_either : (am au bm bu : Bool) → effect (am || bm) (au && bu) ≡ either (effect am au) (effect bm bu)
-effect_either true au bm bu = refl
-effect_either false true bm bu = refl
-effect_either false false true bu = refl
-effect_either false false false true = refl
-effect_either false false false false = refl
+effect_either am au bm bu = grind arith
 
 effect_later : (am au bm bu : Bool) → effect (bm || (am && not bu)) (bu || (au && not bm)) ≡ later (effect am au) (effect bm bu)
-effect_later am au true bu = refl
-effect_later true au false true = refl
-effect_later false au false true = refl
-effect_later true au false false = refl
-effect_later false true false false = refl
-effect_later false false false false = refl
+effect_later am au bm bu = grind arith
 
 apart_either : (am au bm bu : Bool) → (am && au) ≡ false → (bm && bu) ≡ false → ((am || bm) && (au && bu)) ≡ false
-apart_either true true bm bu p q = absurd (true≢false p)
-apart_either true false bm bu p q = refl
-apart_either false true true bu p q = q
-apart_either false true false bu p q = refl
-apart_either false false true bu p q = refl
-apart_either false false false bu p q = refl
+apart_either am au bm bu p q = grind arith
 
 apart_later : (am au bm bu : Bool) → (am && au) ≡ false → (bm && bu) ≡ false → ((bm || (am && not bu)) && (bu || (au && not bm))) ≡ false
-apart_later am au true true p q = q
-apart_later am true true false p q = refl
-apart_later am false true false p q = refl
-apart_later true au false true p q = refl
-apart_later false au false true p q = refl
-apart_later true true false false p q = p
-apart_later true false false false p q = refl
-apart_later false au false false p q = refl
+apart_later am au bm bu p q = grind arith
 
 -- ---- sets
 

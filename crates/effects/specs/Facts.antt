@@ -1,7 +1,6 @@
 -- What a run does to sixteen facts: each it makes, unmakes or keeps as it was; or there is no run at all.
 use Rattle.std.specs.Prelude.{◌≡◌, ℕ, ◌<◌, ◌≤◌, Bool, true, false, cond, not, ◌&&◌, ◌==◌, ◌≢◌, bit_and, refl}
-use Rattle.std.proofs.Common.{ap, arith, lit≤}
-use Rattle.std.proofs.Math.Decide.{dec_lt}
+use Rattle.std.proofs.Common.{ap, arith}
 use Rattle.bits.specs.Bit.{bit}
 use Rattle.bits.specs.Upto.{Upto, place, total}
 use Rattle.bits.proofs.Uptos.{total_le, total_same, total_below}
@@ -34,80 +33,34 @@ level keeps = 1
 level unmakes = 2
 
 pub either_assoc : (a b c : Effect) → either (either a b) c ≡ either a (either b c)
-either_assoc makes b c = refl
-either_assoc unmakes b c = refl
-either_assoc keeps makes c = refl
-either_assoc keeps unmakes c = refl
-either_assoc keeps keeps makes = refl
-either_assoc keeps keeps unmakes = refl
-either_assoc keeps keeps keeps = refl
+either_assoc a b c = grind arith
 
 pub either_comm : (a b : Effect) → either a b ≡ either b a
-either_comm makes makes = refl
-either_comm makes keeps = refl
-either_comm makes unmakes = refl
-either_comm keeps makes = refl
-either_comm keeps keeps = refl
-either_comm keeps unmakes = refl
-either_comm unmakes makes = refl
-either_comm unmakes keeps = refl
-either_comm unmakes unmakes = refl
+either_comm a b = grind arith
 
 pub either_same : (a : Effect) → either a a ≡ a
-either_same makes = refl
-either_same keeps = refl
-either_same unmakes = refl
+either_same a = grind arith
 
 pub later_assoc : (a b c : Effect) → later (later a b) c ≡ later a (later b c)
-later_assoc a b makes = refl
-later_assoc a b unmakes = refl
-later_assoc a b keeps = refl
+later_assoc a b c = grind arith
 
 pub keeps_later : (a : Effect) → later keeps a ≡ a
-keeps_later makes = refl
-keeps_later keeps = refl
-keeps_later unmakes = refl
+keeps_later a = grind arith
 
 pub later_either : (a b c : Effect) → later a (either b c) ≡ either (later a b) (later a c)
-later_either a makes c = refl
-later_either a unmakes makes = refl
-later_either a unmakes keeps = refl
-later_either a unmakes unmakes = refl
-later_either makes keeps makes = refl
-later_either makes keeps keeps = refl
-later_either makes keeps unmakes = refl
-later_either keeps keeps makes = refl
-later_either keeps keeps keeps = refl
-later_either keeps keeps unmakes = refl
-later_either unmakes keeps makes = refl
-later_either unmakes keeps keeps = refl
-later_either unmakes keeps unmakes = refl
+later_either a b c = grind arith
 
 pub either_later : (a b c : Effect) → later (either a b) c ≡ either (later a c) (later b c)
-either_later a b makes = refl
-either_later a b keeps = refl
-either_later a b unmakes = refl
+either_later a b c = grind arith
 
 pub level_most : (a : Effect) → level a ≤ 2
-level_most makes = lit≤ tt
-level_most keeps = lit≤ tt
-level_most unmakes = lit≤ tt
+level_most a = grind arith
 
 pub level_falls : (a b : Effect) → level (either a b) ≤ level a
-level_falls makes b = lit≤ tt
-level_falls keeps makes = lit≤ tt
-level_falls keeps keeps = lit≤ tt
-level_falls keeps unmakes = lit≤ tt
-level_falls unmakes b = level_most b
+level_falls a b = grind arith
 
 pub level_still : (a b : Effect) → level (either a b) ≡ level a → either a b ≡ a
-level_still makes b e = refl
-level_still keeps makes e = absurd (omega (arith, e))
-level_still keeps keeps e = refl
-level_still keeps unmakes e = refl
-level_still unmakes makes e = absurd (omega (arith, e))
-level_still unmakes keeps e = absurd (omega (arith, e))
-level_still unmakes unmakes e = refl
+level_still a b e = grind arith
 
 -- ---- all facts
 
@@ -136,55 +89,34 @@ pub known_is : {f g : Fact → Effect} → ((k : Fact) → f k ≡ g k) → know
 known_is h = ap known (λ i k. h k i)
 
 pub combine_assoc : (x y z : Value) → combine (combine x y) z ≡ combine x (combine y z)
-combine_assoc none y z = refl
-combine_assoc (known f) none z = refl
-combine_assoc (known f) (known g) none = refl
-combine_assoc (known f) (known g) (known h) = known_is (λ k. either_assoc (f k) (g k) (h k))
+combine_assoc x y z = grind (arith, known_is, either_assoc)
 
 pub combine_comm : (x y : Value) → combine x y ≡ combine y x
-combine_comm none none = refl
-combine_comm none (known g) = refl
-combine_comm (known f) none = refl
-combine_comm (known f) (known g) = known_is (λ k. either_comm (f k) (g k))
+combine_comm x y = grind (arith, known_is, either_comm)
 
 pub combine_same : (x : Value) → combine x x ≡ x
-combine_same none = refl
-combine_same (known f) = known_is (λ k. either_same (f k))
+combine_same x = grind (arith, known_is, either_same)
 
 pub combine_none : (x : Value) → combine x none ≡ x
-combine_none none = refl
-combine_none (known f) = refl
+combine_none x = grind arith
 
 pub extend_assoc : (x y z : Value) → extend (extend x y) z ≡ extend x (extend y z)
-extend_assoc none y z = refl
-extend_assoc (known f) none z = refl
-extend_assoc (known f) (known g) none = refl
-extend_assoc (known f) (known g) (known h) = known_is (λ k. later_assoc (f k) (g k) (h k))
+extend_assoc x y z = grind (arith, known_is, later_assoc)
 
 pub keeps_extend : (x : Value) → extend (known (λ k. keeps)) x ≡ x
-keeps_extend none = refl
-keeps_extend (known f) = known_is (λ k. keeps_later (f k))
+keeps_extend x = grind (arith, known_is, keeps_later)
 
 pub extend_keeps : (x : Value) → extend x (known (λ k. keeps)) ≡ x
-extend_keeps none = refl
-extend_keeps (known f) = refl
+extend_keeps x = grind arith
 
 pub extend_none : (x : Value) → extend x none ≡ none
-extend_none none = refl
-extend_none (known f) = refl
+extend_none x = grind arith
 
 pub extend_combine : (x y z : Value) → extend x (combine y z) ≡ combine (extend x y) (extend x z)
-extend_combine none y z = refl
-extend_combine (known f) none z = refl
-extend_combine (known f) (known g) none = refl
-extend_combine (known f) (known g) (known h) = known_is (λ k. later_either (f k) (g k) (h k))
+extend_combine x y z = grind (arith, known_is, later_either)
 
 pub combine_extend : (x y z : Value) → extend (combine x y) z ≡ combine (extend x z) (extend y z)
-combine_extend none y z = refl
-combine_extend (known f) none none = refl
-combine_extend (known f) none (known h) = refl
-combine_extend (known f) (known g) none = refl
-combine_extend (known f) (known g) (known h) = known_is (λ k. either_later (f k) (g k) (h k))
+combine_extend x y z = grind (arith, known_is, either_later)
 
 pub rank_known : (f : Fact → Effect) → total 16 (λ k. level (f k)) ≤ 32
 rank_known f = total_below 16 2 (λ k. level (f k)) (λ k. level_most (f k))
@@ -202,10 +134,7 @@ falls none none ne = absurd (ne refl)
 falls none (known g) ne = omega (arith, rank_known g)
 falls (known f) none ne = absurd (ne refl)
 falls (known f) (known g) ne =
-    elim (dec_lt (rank (combine (known f) (known g))) (rank (known f))) [
-      | yes h ↦ h
-      | no h ↦ absurd (ne (still f g (omega (arith, h))))
-    ]
+    let fallen : rank (known f) ≤ rank (combine (known f) (known g)) → ⊥ = λ h. ne (still f g h) in omega arith
 
 abbrev pub facts : Semiring
 facts = record {

@@ -4,7 +4,8 @@ ghost use Rattle.effects.specs.Facts.{Fact, disjoint, effects, either, later};
 ghost use Rattle.effects.specs.Sets.{union, intersection, difference};
 
 // A set of facts that are made, and one of facts that are unmade.
-#[derive(Clone, Copy)]
+// Not a model, which would hide `apart`: each contract that hands on a value would have to say it again.
+#[derive(Clone, Copy, Debug, PartialEq, Eq)]
 pub struct Known {
     made: u16,
     unmade: u16,

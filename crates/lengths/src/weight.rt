@@ -5,11 +5,12 @@ ghost use Rattle.lengths.specs.Lengths.{lengths, capped, longest, summed};
 use weights::weight::Weight;
 
 // No run is longer, and a run of this length is as good as none.
-const LONGEST: u16 = 65_535;
+const LONGEST: u16 = u16::MAX;
 
-#[derive(Clone, Copy)]
+#[derive(Clone, Copy, Debug, PartialEq, Eq)]
 pub struct Length(pub u16);
 
+#[tactic(auto, using(crate::specs::Lengths::capped_is, crate::proofs::Stored::capped_same))]
 impl Weight for Length {
     ghost algebra = { lengths };
 
@@ -47,6 +48,6 @@ impl Weight for Length {
         ensures means { Decides result (capped self.0 ≡ capped other.0) }
         ensures value { Decides result (self.0 ≡ other.0) }
     {
-        self.0 == other.0
+        self == other
     }
 }
