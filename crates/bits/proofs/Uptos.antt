@@ -1,12 +1,9 @@
 -- Finite index types: their numbers, some, every and total.
-use Rattle.std.proofs.Common.{◌≡◌, ℕ, zero, suc, ◌+◌, ◌*◌, ◌<◌, ◌≤◌, Bool, true, false, ◌&&◌, ◌||◌, eqb, ◌⊎◌, Decides, sym, refl, ap, ◌∙◌, subst, inl, inr, suc-mul, arith}
-use mathlib.Core.Bool.{and-true, and-false, or-true, or-false, and-or_distrib_right, and-eq-true_iff, false≢true}
-use lib.Dec.{eqb-zero-suc, eqb-suc-zero, eqb-suc-suc}
+use Rattle.std.proofs.Common.{◌≡◌, ℕ, zero, suc, ◌+◌, ◌*◌, ◌<◌, ◌≤◌, Bool, true, false, ◌&&◌, ◌||◌, eqb, Decides, sym, refl, ap, subst, inl, inr, suc-mul, arith}
+use Rattle.std.proofs.Math.Bool.{and-true, and-false, or_assoc, or_comm, or-false, and-or_distrib_right}
+use Rattle.std.proofs.lemmas.Bool.{false≢true, and_parts, and_from, or_cases, or_left, or_right}
+use Rattle.std.proofs.Math.Dec.{eqb-zero-suc, eqb-suc-zero, eqb-suc-suc}
 use Rattle.bits.specs.Upto.{Upto, place, some, every, total}
-
-test : (b : Bool) → (b ≡ true) ⊎ (b ≡ false)
-test true = inl refl
-test false = inr refl
 
 -- ---- the numbers of indices
 
@@ -44,17 +41,9 @@ pub some_none : (n : ℕ) → some n (λ i. false) ≡ false
 some_none zero = refl
 some_none (suc n) = some_none n
 
-pub or_swap_in : (a b c d : Bool) → ((a || b) || (c || d)) ≡ ((a || c) || (b || d))
-or_swap_in true b c d = refl
-or_swap_in false true true d = refl
-or_swap_in false true false d = refl
-or_swap_in false false c d = refl
-
 pub some_or : (n : ℕ) (f g : Upto n → Bool) → some n (λ i. f i || g i) ≡ (some n f || some n g)
 some_or zero f g = refl
-some_or (suc n) f g =
-    ap (λ b. (f (inl tt) || g (inl tt)) || b) (some_or n (λ i. f (inr i)) (λ i. g (inr i)))
-    ∙ or_swap_in (f (inl tt)) (g (inl tt)) (some n (λ i. f (inr i))) (some n (λ i. g (inr i)))
+some_or (suc n) f g = grind (arith, some_or n (λ i. f (inr i)) (λ i. g (inr i)), or_assoc, or_comm)
 
 pub and_some : (n : ℕ) (b : Bool) (f : Upto n → Bool) → some n (λ i. b && f i) ≡ (b && some n f)
 and_some n true f = refl
@@ -62,51 +51,37 @@ and_some n false f = some_none n
 
 pub some_and : (n : ℕ) (f : Upto n → Bool) (b : Bool) → some n (λ i. f i && b) ≡ (some n f && b)
 some_and zero f b = refl
-some_and (suc n) f b =
-    ap (λ c. (f (inl tt) && b) || c) (some_and n (λ i. f (inr i)) b)
-    ∙ sym (and-or_distrib_right (f (inl tt)) (some n (λ i. f (inr i))) b)
+some_and (suc n) f b = grind (arith, some_and n (λ i. f (inr i)) b, and-or_distrib_right)
 
 pub some_swap : (n m : ℕ) (f : Upto n → Upto m → Bool) → some n (λ i. some m (λ j. f i j)) ≡ some m (λ j. some n (λ i. f i j))
 some_swap zero m f = sym (some_none m)
 some_swap (suc n) m f =
-    ap (λ b. some m (λ j. f (inl tt) j) || b) (some_swap n m (λ i j. f (inr i) j))
-    ∙ sym (some_or m (λ j. f (inl tt) j) (λ j. some n (λ i. f (inr i) j)))
+    cc (some_swap n m (λ i j. f (inr i) j), some_or m (λ j. f (inl tt) j) (λ j. some n (λ i. f (inr i) j)))
 
 -- the one index that is i has it
 pub some_same : (n : ℕ) (i : Upto n) (f : Upto n → Bool) → some n (λ k. eqb (place n i) (place n k) && f k) ≡ f i
 some_same zero i f = absurd i
-some_same (suc n) (inl a) f =
-    ap (λ b. f (inl tt) || b) ((λ t. some n (λ k. eqb-zero-suc (place n k) t && f (inr k))) ∙ some_none n) ∙ or-false (f (inl tt))
-some_same (suc n) (inr i) f =
-    (λ t. (eqb-suc-zero (place n i) t && f (inl tt)) || some n (λ k. eqb-suc-suc (place n i) (place n k) t && f (inr k)))
-    ∙ some_same n i (λ k. f (inr k))
+some_same (suc n) (inl a) f = simp eqb-zero-suc (rw (some_none n) (or-false (f (inl tt))))
+some_same (suc n) (inr i) f = simp (eqb-suc-zero, eqb-suc-suc) (some_same n i (λ k. f (inr k)))
 
 pub same_some : (n : ℕ) (f : Upto n → Bool) (i : Upto n) → some n (λ k. f k && eqb (place n k) (place n i)) ≡ f i
 same_some zero f i = absurd i
-same_some (suc n) f (inl a) =
-    (λ t. and-true (f (inl tt)) t || some n (λ k. f (inr k) && eqb-suc-zero (place n k) t))
-    ∙ (λ t. f (inl tt) || some n (λ k. and-false (f (inr k)) t))
-    ∙ ap (λ b. f (inl tt) || b) (some_none n) ∙ or-false (f (inl tt))
-same_some (suc n) f (inr i) =
-    (λ t. (f (inl tt) && eqb-zero-suc (place n i) t) || some n (λ k. f (inr k) && eqb-suc-suc (place n k) (place n i) t))
-    ∙ (λ t. and-false (f (inl tt)) t || some n (λ k. f (inr k) && eqb (place n k) (place n i)))
-    ∙ same_some n (λ k. f (inr k)) i
+same_some (suc n) f (inl a) = simp (and-true, eqb-suc-zero, and-false) (rw (some_none n) (or-false (f (inl tt))))
+same_some (suc n) f (inr i) = simp (eqb-zero-suc, eqb-suc-suc, and-false) (same_some n (λ k. f (inr k)) i)
 
 -- the first of the indices that have it
 pub some_true : (n : ℕ) (f : Upto n → Bool) → some n f ≡ true → (i : Upto n) × (f i ≡ true)
 some_true zero f e = absurd (false≢true e)
 some_true (suc n) f e =
-    elim (test (f (inl tt))) [
-      | inl yes_first ↦ (inl tt, yes_first)
-      | inr no_first ↦
-          let later = some_true n (λ i. f (inr i)) (ap (λ b. b || some n (λ i. f (inr i))) (sym no_first) ∙ e) in
-          (inr later.0, later.1)
+    elim (or_cases (f (inl tt)) _ e) [
+      | inl here ↦ (inl tt, here)
+      | inr later ↦ let found = some_true n (λ i. f (inr i)) later in (inr found.0, found.1)
     ]
 
 pub true_some : (n : ℕ) (f : Upto n → Bool) (i : Upto n) → f i ≡ true → some n f ≡ true
 true_some zero f i e = absurd i
-true_some (suc n) f (inl a) e = ap (λ b. b || some n (λ i. f (inr i))) e
-true_some (suc n) f (inr i) e = ap (λ b. f (inl tt) || b) (true_some n (λ i. f (inr i)) i e) ∙ or-true (f (inl tt))
+true_some (suc n) f (inl a) e = or_left _ _ e
+true_some (suc n) f (inr i) e = or_right (f (inl tt)) _ (true_some n (λ i. f (inr i)) i e)
 
 pub some_decides : (n : ℕ) (f : Upto n → Bool) → Decides (some n f) ((i : Upto n) × (f i ≡ true))
 some_decides n f = (some_true n f, λ found. true_some n f found.0 found.1)
@@ -115,13 +90,12 @@ some_decides n f = (some_true n f, λ found. true_some n f found.0 found.1)
 
 pub every_true : (n : ℕ) (f : Upto n → Bool) → every n f ≡ true → (i : Upto n) → f i ≡ true
 every_true zero f e i = absurd i
-every_true (suc n) f e (inl a) = ((and-eq-true_iff (f (inl tt)) (every n (λ i. f (inr i)))).0 e).0
-every_true (suc n) f e (inr i) =
-    every_true n (λ i. f (inr i)) ((and-eq-true_iff (f (inl tt)) (every n (λ i. f (inr i)))).0 e).1 i
+every_true (suc n) f e (inl a) = (and_parts (f (inl tt)) _ e).0
+every_true (suc n) f e (inr i) = every_true n (λ i. f (inr i)) (and_parts (f (inl tt)) _ e).1 i
 
 pub true_every : (n : ℕ) (f : Upto n → Bool) → ((i : Upto n) → f i ≡ true) → every n f ≡ true
 true_every zero f h = refl
-true_every (suc n) f h = λ t. h (inl tt) t && true_every n (λ i. f (inr i)) (λ i. h (inr i)) t
+true_every (suc n) f h = and_from _ _ (h (inl tt)) (true_every n (λ i. f (inr i)) (λ i. h (inr i)))
 
 pub every_decides : (n : ℕ) (f : Upto n → Bool) → Decides (every n f) ((i : Upto n) → f i ≡ true)
 every_decides n f = (every_true n f, true_every n f)
@@ -136,10 +110,10 @@ total_le (suc n) f g h = omega (arith, h (inl tt), total_le n (λ i. f (inr i)) 
 pub total_same : (n : ℕ) (f g : Upto n → ℕ) → ((i : Upto n) → f i ≤ g i) → total n f ≡ total n g → (i : Upto n) → f i ≡ g i
 total_same zero f g h e i = absurd i
 total_same (suc n) f g h e (inl a) =
-    omega (arith, h (inl tt), e, total_le n (λ i. f (inr i)) (λ i. g (inr i)) (λ i. h (inr i)))
+    omega (arith, h (inl tt), total_le n (λ i. f (inr i)) (λ i. g (inr i)) (λ i. h (inr i)))
 total_same (suc n) f g h e (inr i) =
-    total_same n (λ i. f (inr i)) (λ i. g (inr i)) (λ i. h (inr i))
-    (omega (arith, h (inl tt), e, total_le n (λ i. f (inr i)) (λ i. g (inr i)) (λ i. h (inr i)))) i
+    let rest = total_le n (λ i. f (inr i)) (λ i. g (inr i)) (λ i. h (inr i)) in
+    total_same n (λ i. f (inr i)) (λ i. g (inr i)) (λ i. h (inr i)) (omega (arith, h (inl tt))) i
 
 pub total_below : (n b : ℕ) (f : Upto n → ℕ) → ((i : Upto n) → f i ≤ b) → total n f ≤ n * b
 total_below zero b f h = omega arith

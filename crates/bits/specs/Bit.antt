@@ -1,6 +1,7 @@
 -- One bit of a number.
-use Rattle.std.specs.Prelude.{ℕ, ◌/◌, ◌%◌, ◌^◌, Bool, ◌==◌}
+use Rattle.std.specs.Prelude.{ℕ, Bool, ◌==◌}
+use Rattle.std.specs.Int.{bit_at}
 
--- bit k of n, counted from the lowest
+-- whether bit k of n is set, counted from the lowest
 abbrev pub bit : ℕ → ℕ → Bool
-bit n k = n / 2 ^ k % 2 == 1
+bit n k = bit_at n k == 1
