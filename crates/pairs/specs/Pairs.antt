@@ -1,7 +1,7 @@
 -- The semiring of two semirings side by side.
 use Rattle.std.specs.Prelude.{◌≡◌, ℕ, ◌+◌, ◌<◌, ◌≢◌}
-use Rattle.std.proofs.Math.Decide.{dec_lt}
-use Rattle.std.proofs.Common.{arith}
+use Rattle.std.proofs.Common.{inl, inr, arith}
+use Rattle.std.proofs.lemmas.Bool.{cases_lt}
 use Rattle.weights.specs.Semiring.{Semiring}
 use Rattle.weights.specs.Ranks.{unchanged, never_rises}
 
@@ -24,13 +24,13 @@ module _ (S R : Semiring) where
 
   pub pair_falls : (x y : Both S.Value R.Value) → (pair_combine x y ≢ x) → pair_rank (pair_combine x y) < pair_rank x
   pair_falls x y ne =
-      elim (dec_lt (pair_rank (pair_combine x y)) (pair_rank x)) [
-        | yes h ↦ h
-        | no h ↦
+      elim (cases_lt (pair_rank (pair_combine x y)) (pair_rank x)) [
+        | inl falls ↦ falls
+        | inr stays ↦
             let l = never_rises S x.left y.left in
             let r = never_rises R x.right y.right in
-            absurd (unchanged S x.left y.left (omega (arith, h)) (λ p.
-            unchanged R x.right y.right (omega (arith, h)) (λ q. ne (both_is p q))))
+            absurd (unchanged S x.left y.left (omega arith) (λ p.
+            unchanged R x.right y.right (omega arith) (λ q. ne (both_is p q))))
       ]
 
 abbrev pub pair : Semiring → Semiring → Semiring

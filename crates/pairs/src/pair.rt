@@ -4,7 +4,7 @@ ghost use Rattle.pairs.specs.Pairs.{pair, both};
 
 use weights::weight::Weight;
 
-// Without `==`: pairs that are stored otherwise may mean one value, which `same` says.
+// No `PartialEq`: pairs that are stored otherwise may mean one value, and `same` says so.
 #[derive(Debug, Clone, Copy)]
 pub struct Pair<A, B> {
     pub first: A,

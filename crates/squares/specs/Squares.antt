@@ -1,7 +1,7 @@
 -- The semiring of squares over a semiring, with rows and columns 0 and 1.
 use Rattle.std.specs.Prelude.{◌≡◌, ℕ, ◌+◌, ◌<◌, ◌≢◌}
-use Rattle.std.proofs.Common.{◌∙◌, arith}
-use Rattle.std.proofs.Math.Decide.{dec_lt}
+use Rattle.std.proofs.Common.{◌∙◌, inl, inr, arith}
+use Rattle.std.proofs.lemmas.Bool.{cases_lt}
 use Rattle.weights.specs.Semiring.{Semiring}
 use Rattle.weights.specs.Ranks.{unchanged, never_rises}
 
@@ -64,17 +64,17 @@ module _ (S : Semiring) where
 
   pub square_falls : (m n : Quad S.Value) → (square_combine m n ≢ m) → square_rank (square_combine m n) < square_rank m
   square_falls m n ne =
-      elim (dec_lt (square_rank (square_combine m n)) (square_rank m)) [
-        | yes h ↦ h
-        | no h ↦
+      elim (cases_lt (square_rank (square_combine m n)) (square_rank m)) [
+        | inl falls ↦ falls
+        | inr stays ↦
             let a = never_rises S m.q00 n.q00 in
             let b = never_rises S m.q01 n.q01 in
             let c = never_rises S m.q10 n.q10 in
             let d = never_rises S m.q11 n.q11 in
-            absurd (unchanged S m.q00 n.q00 (omega (arith, h)) (λ p.
-            unchanged S m.q01 n.q01 (omega (arith, h)) (λ q.
-            unchanged S m.q10 n.q10 (omega (arith, h)) (λ r.
-            unchanged S m.q11 n.q11 (omega (arith, h)) (λ s. ne (quad_is p q r s))))))
+            absurd (unchanged S m.q00 n.q00 (omega arith) (λ p.
+            unchanged S m.q01 n.q01 (omega arith) (λ q.
+            unchanged S m.q10 n.q10 (omega arith) (λ r.
+            unchanged S m.q11 n.q11 (omega arith) (λ s. ne (quad_is p q r s))))))
       ]
 
 abbrev pub square : Semiring → Semiring

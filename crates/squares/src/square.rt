@@ -5,7 +5,7 @@ ghost use Rattle.squares.specs.Squares.{square, quad, dot};
 use weights::weight::Weight;
 
 // The part at row i and column j is `wij`.
-// Without `==`: squares that are stored otherwise may mean one value, which `same` says.
+// No `PartialEq`: squares that are stored otherwise may mean one value, and `same` says so.
 #[derive(Debug, Clone, Copy)]
 pub struct Square<W> {
     pub w00: W,
