@@ -25,7 +25,7 @@ pub trait Weight: Copy {
     fn extend(self, other: Self) -> Self
         ensures { meaning result ≡ algebra.extend (meaning self) (meaning other) };
 
-    // Whether both mean one value, also where they are stored otherwise, which `==` would tell apart.
+    // Whether both mean one value. This is not `==`, since what is stored may differ.
     fn same(self, other: Self) -> bool
         ensures { Decides result (meaning self ≡ meaning other) };
 
