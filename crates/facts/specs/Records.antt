@@ -1,43 +1,31 @@
 -- What stored records mean.
-use Rattle.std.specs.Prelude.{◌≡◌, ℕ, ◌^◌, ◌<◌, Bool, true, false, cond, not, ◌&&◌, ◌⊎◌, Decides, ◌==◌, ◌≢◌, refl}
-use Rattle.std.proofs.Common.{sym, ◌∙◌, true≢false, inl, inr}
-use Rattle.std.proofs.Math.Path.{ap}
-use Rattle.std.specs.Bool.{beq}
-use Rattle.std.proofs.Math.Bool.{and-eq-true_iff}
-use Rattle.std.proofs.lemmas.Bool.{eqb-true, eq-eqb, false≢true}
-use Rattle.std.proofs.lemmas.Bool.Decides.{Decides-like, Decides-and, Decides-eqb}
+use Rattle.std.specs.Prelude.{◌≡◌, ℕ, ◌^◌, ◌<◌, Bool, true, false, ◌&&◌}
+use Rattle.std.proofs.Common.{sym, ◌∙◌, ap, arith}
 use Rattle.bits.specs.Bit.{bit}
 use Rattle.bits.specs.Upto.{place}
 use Rattle.bits.proofs.Bitwise.{bits_same}
 use Rattle.bits.proofs.Uptos.{by_place}
 use Rattle.facts.specs.declared.weight.Facts.{Facts}
 use Rattle.effects.specs.declared.known.Known.{Known}
-use Rattle.effects.specs.Facts.{Effect, unmakes, keeps, makes, Fact, Value, none, known, known_is, effect, effects, either, later, disjoint, facts}
-use Rattle.effects.specs.Sets.{union, intersection, difference}
-use Rattle.facts.specs.Stored.{value_of, nothing, sets, is_known, stored, Proper, joined, combined, followed, extended}
+use Rattle.effects.specs.Facts.{Effect, Fact, none, known, known_is, effect, effects, either, later, facts}
+use Rattle.effects.specs.Sets.{intersection}
+use Rattle.facts.specs.Stored.{value_of, sets, is_known, stored}
 use Rattle.effects.proofs.Effects.{apart_bit}
 
 -- ---- records with a known value, and others
 
 module _ (x : Facts) where
   pub value_known : is_known x ≡ true → value_of x ≡ known (effects x.made x.unmade)
-  value_known e = ap (λ b. cond b (known (effects x.made x.unmade)) none) e
+  value_known e = rw e
 
   pub value_none : is_known x ≡ false → value_of x ≡ none
-  value_none e = ap (λ b. cond b (known (effects x.made x.unmade)) none) e
-
-  pub stored_known : is_known x ≡ true → stored x ≡ sets x.made x.unmade
-  stored_known e = ap (λ b. cond b (sets x.made x.unmade) nothing) e
-
-  pub stored_none : is_known x ≡ false → stored x ≡ nothing
-  stored_none e = ap (λ b. cond b (sets x.made x.unmade) nothing) e
+  value_none e = rw e
 
   pub known_apart : is_known x ≡ true → intersection x.made x.unmade ≡ 0
-  known_apart e =
-      eqb-true (intersection x.made x.unmade) 0 ((and-eq-true_iff (not x.none) (disjoint x.made x.unmade)).0 e).1
+  known_apart e = grind arith
 
 pub sets_value : (m u : ℕ) → intersection m u ≡ 0 → value_of (sets m u) ≡ known (effects m u)
-sets_value m u e = value_known (sets m u) (eq-eqb (intersection m u) 0 e)
+sets_value m u e = rw e
 
 -- ---- what two known values come to
 
@@ -52,9 +40,6 @@ module _ (x y out : Facts) (a b r : Known) (hx : Has x a) (hy : Has y b) (is : o
   answer_value : value_of out ≡ known (effects r.made r.unmade)
   answer_value = ap value_of is ∙ sets_value r.made r.unmade r.apart
 
-  pub answer_proper : Proper out
-  answer_proper = rw is r.apart
-
   pub combine_means : ((k : Fact) → effects r.made r.unmade k ≡ either (effects a.made a.unmade k) (effects b.made b.unmade k))
       → value_of out ≡ facts.combine (value_of x) (value_of y)
   combine_means each = answer_value ∙ known_is each ∙ sym (λ i. facts.combine (has_value x a hx i) (has_value y b hy i))
@@ -63,132 +48,37 @@ module _ (x y out : Facts) (a b r : Known) (hx : Has x a) (hy : Has y b) (is : o
       → value_of out ≡ facts.extend (value_of x) (value_of y)
   extend_means each = answer_value ∙ known_is each ∙ sym (λ i. facts.extend (has_value x a hx i) (has_value y b hy i))
 
-  pub combine_value : r.made ≡ union a.made b.made → r.unmade ≡ intersection a.unmade b.unmade → out ≡ combined x y
-  combine_value m u =
-      is
-      ∙ (λ i. sets (m i) (u i))
-      ∙ (λ i. sets (union (hx.1 i) (hy.1 i)) (intersection (hx.2 i) (hy.2 i)))
-      ∙ sym (λ i. cond (hx.0 i) (cond (hy.0 i) (joined x y) (stored x)) (stored y))
-
-  pub extend_value : r.made ≡ union b.made (difference a.made b.unmade) → r.unmade ≡ union b.unmade (difference a.unmade b.made)
-      → out ≡ extended x y
-  extend_value m u =
-      is
-      ∙ (λ i. sets (m i) (u i))
-      ∙ (λ i. sets (union (hy.1 i) (difference (hx.1 i) (hy.2 i))) (union (hy.2 i) (difference (hx.2 i) (hy.1 i))))
-      ∙ sym (λ i. cond (hx.0 i && hy.0 i) (followed x y) nothing)
-
 -- ---- records that mean the same
 
-is_makes : Effect → Bool
-is_makes makes = true
-is_makes keeps = false
-is_makes unmakes = false
+-- an effect tells the sets that it came from
+effect_made : (m u m' u' : Bool) → effect m u ≡ effect m' u' → m ≡ m'
+effect_made m u m' u' e = grind arith
 
-is_unmakes : Effect → Bool
-is_unmakes makes = false
-is_unmakes keeps = false
-is_unmakes unmakes = true
-
-makes_effect : (m u : Bool) → is_makes (effect m u) ≡ m
-unfolding is_makes
-makes_effect true u = refl
-makes_effect false true = refl
-makes_effect false false = refl
-
-unmakes_effect : (m u : Bool) → (m && u) ≡ false → is_unmakes (effect m u) ≡ u
-unfolding is_unmakes
-unmakes_effect true u p = sym p
-unmakes_effect false true p = refl
-unmakes_effect false false p = refl
-
--- what the value does to a fact
-does : Value → Fact → Effect
-does none k = keeps
-does (known f) k = f k
-
-is_none : Value → Bool
-is_none none = true
-is_none (known f) = false
-
-none_known : (f : Fact → Effect) → none ≢ known f
-unfolding is_none
-none_known f e = true≢false (ap is_none e)
+effect_unmade : (m u m' u' : Bool) → effect m u ≡ effect m' u' → (m && u) ≡ false → (m' && u') ≡ false → u ≡ u'
+effect_unmade m u m' u' e p p' = grind arith
 
 module _ (m u m' u' : ℕ) (e : known (effects m u) ≡ known (effects m' u')) where
   effects_same : (k : Fact) → effects m u k ≡ effects m' u' k
-  unfolding does
-  effects_same k = ap (λ v. does v k) e
+  effects_same k = let f : effects m u ≡ effects m' u' = cc in ap (λ (f : Fact → Effect). f k) f
 
   made_same : m < 2 ^ 16 → m' < 2 ^ 16 → m ≡ m'
   made_same l l' =
-      bits_same 16 m m' l l' (by_place 16 (λ n. bit m n ≡ bit m' n) (λ k.
-      let n = place 16 k in
-      sym (makes_effect (bit m n) (bit u n)) ∙ ap is_makes (effects_same k) ∙ makes_effect (bit m' n) (bit u' n)))
+      bits_same 16 m m' l l'
+      (by_place 16 (λ n. bit m n ≡ bit m' n) (λ k. let n = place 16 k in effect_made (bit m n) (bit u n) (bit m' n) (bit u' n) (effects_same k)))
 
   unmade_same : u < 2 ^ 16 → u' < 2 ^ 16 → intersection m u ≡ 0 → intersection m' u' ≡ 0 → u ≡ u'
   unmade_same l l' p p' =
-      bits_same 16 u u' l l' (by_place 16 (λ n. bit u n ≡ bit u' n) (λ k.
-      let n = place 16 k in
-      sym (unmakes_effect (bit m n) (bit u n) (apart_bit m u p n))
-      ∙ ap is_unmakes (effects_same k)
-      ∙ unmakes_effect (bit m' n) (bit u' n) (apart_bit m' u' p' n)))
-
-test : (b : Bool) → (b ≡ true) ⊎ (b ≡ false)
-test true = inl refl
-test false = inr refl
+      bits_same 16 u u' l l'
+      (by_place 16 (λ n. bit u n ≡ bit u' n)
+      (λ k. let n = place 16 k in effect_unmade (bit m n) (bit u n) (bit m' n) (bit u' n) (effects_same k) (apart_bit m u p n) (apart_bit m' u' p' n)))
 
 -- a record means what it is stored as
 stored_value : (x : Facts) → value_of (stored x) ≡ value_of x
-stored_value x =
-    elim (test (is_known x)) [
-      | inl e ↦ ap value_of (stored_known x e) ∙ sets_value x.made x.unmade (known_apart x e) ∙ sym (value_known x e)
-      | inr e ↦ ap value_of (stored_none x e) ∙ sym (value_none x e)
-    ]
+stored_value x = grind arith
 
 module _ (x y : Facts) where
   pub stored_means : stored x ≡ stored y → value_of x ≡ value_of y
   stored_means e = sym (stored_value x) ∙ ap value_of e ∙ stored_value y
 
   pub means_stored : x.made < 2 ^ 16 → x.unmade < 2 ^ 16 → y.made < 2 ^ 16 → y.unmade < 2 ^ 16 → value_of x ≡ value_of y → stored x ≡ stored y
-  means_stored xm xu ym yu e =
-      elim (test (is_known x)) [
-        | inl p ↦
-            elim (test (is_known y)) [
-              | inl q ↦
-                  let f = sym (value_known x p) ∙ e ∙ value_known y q in
-                  let m = made_same x.made x.unmade y.made y.unmade f xm ym in
-                  let u = unmade_same x.made x.unmade y.made y.unmade f xu yu (known_apart x p) (known_apart y q) in
-                  stored_known x p ∙ (λ i. sets (m i) (u i)) ∙ sym (stored_known y q)
-              | inr q ↦ absurd (none_known (effects x.made x.unmade) (sym (value_none y q) ∙ sym e ∙ value_known x p))
-            ]
-        | inr p ↦
-            elim (test (is_known y)) [
-              | inl q ↦ absurd (none_known (effects y.made y.unmade) (sym (value_none x p) ∙ e ∙ value_known y q))
-              | inr q ↦ stored_none x p ∙ sym (stored_none y q)
-            ]
-      ]
-
-decides_beq : (b c : Bool) → Decides (beq b c) (b ≡ c)
-decides_beq true true = (λ e. refl, λ e. refl)
-decides_beq true false = (λ e. absurd (false≢true e), λ e. absurd (true≢false e))
-decides_beq false true = (λ e. absurd (false≢true e), λ e. absurd (false≢true e))
-decides_beq false false = (λ e. refl, λ e. refl)
-
--- records are compared field by field
-abbrev alike : Facts → Facts → Bool
-alike a b = (beq a.none b.none && a.made == b.made) && a.unmade == b.unmade
-
-decides_alike : (a b : Facts) → Decides (alike a b) (a ≡ b)
-decides_alike a b =
-    Decides-like (alike a b)
-    (λ h. λ i. record { none = h.0.0 i; made = h.0.1 i; unmade = h.1 i })
-    (λ e. ((ap (λ (x : Facts). x.none) e, ap (λ (x : Facts). x.made) e), ap (λ (x : Facts). x.unmade) e))
-    (Decides-and _ _ (Decides-and _ _ (decides_beq a.none b.none) (Decides-eqb a.made b.made)) (Decides-eqb a.unmade b.unmade))
-
-module _ (x y a b : Facts) (p : a ≡ stored x) (q : b ≡ stored y) where
-  pub same_value : Decides (alike a b) (stored x ≡ stored y)
-  same_value = Decides-like (alike a b) (λ e. sym p ∙ e ∙ q) (λ e. p ∙ e ∙ sym q) (decides_alike a b)
-
-  pub same_means : x.made < 2 ^ 16 → x.unmade < 2 ^ 16 → y.made < 2 ^ 16 → y.unmade < 2 ^ 16 → Decides (alike a b) (value_of x ≡ value_of y)
-  same_means xm xu ym yu = Decides-like (alike a b) (stored_means x y) (means_stored x y xm xu ym yu) same_value
+  means_stored xm xu ym yu e = grind (arith, made_same, unmade_same)

@@ -7,7 +7,8 @@ use effects::known::Known;
 use weights::weight::Weight;
 
 // None, or the facts that are made and those that are unmade. A record with a fact in both means none.
-#[derive(Clone, Copy)]
+// Not an `Option<Known>`: the specification of stored weights fixes this plain record.
+#[derive(Clone, Copy, Debug, PartialEq, Eq)]
 pub struct Facts {
     pub none: bool,
     pub made: u16,
@@ -26,16 +27,25 @@ const KEEPING: Facts = Facts {
     unmade: 0,
 };
 
-impl Facts {
-    // The record that stores the value.
-    pub(crate) fn of(known: Known) -> Facts
-        ensures { result ≡ sets known.made known.unmade }
-    {
+// The record that stores the value.
+impl From<Known> for Facts {
+    ghost from_gives = { λ known result. result ≡ sets known.made known.unmade };
+
+    fn from(known: Known) -> Facts {
         Facts {
             none: false,
             made: known.made(),
             unmade: known.unmade(),
         }
+    }
+}
+
+impl Facts {
+    // The record that stores the value.
+    pub(crate) fn of(known: Known) -> Facts
+        ensures { result ≡ sets known.made known.unmade }
+    {
+        known.into()
     }
 
     // The known value, unless the record means none.
@@ -53,10 +63,7 @@ impl Facts {
     fn settled(self) -> Facts
         ensures { result ≡ stored self }
     {
-        match self.known() {
-            Some(known) => Facts::of(known),
-            None => NOTHING,
-        }
+        self.known().map_or(NOTHING, Facts::from)
     }
 }
 
@@ -84,13 +91,11 @@ impl Weight for Facts {
         ensures value { result ≡ combined self other }
         ensures proper { Proper result }
     {
-        let Some(first) = self.known() else {
-            return other.settled();
-        };
-        let Some(second) = other.known() else {
-            return Facts::of(first);
-        };
-        Facts::of(first.combine(second))
+        match (self.known(), other.known()) {
+            (Some(first), Some(second)) => first.combine(second).into(),
+            (Some(first), None) => first.into(),
+            (None, _) => other.settled(),
+        }
     }
 
     fn extend(self, other: Facts) -> Facts
@@ -98,21 +103,16 @@ impl Weight for Facts {
         ensures value { result ≡ extended self other }
         ensures proper { Proper result }
     {
-        let Some(first) = self.known() else {
-            return NOTHING;
-        };
-        let Some(second) = other.known() else {
-            return NOTHING;
-        };
-        Facts::of(first.extend(second))
+        match (self.known(), other.known()) {
+            (Some(first), Some(second)) => first.extend(second).into(),
+            _ => NOTHING,
+        }
     }
 
     fn same(self, other: Facts) -> bool
         ensures means { Decides result (value_of self ≡ value_of other) }
         ensures value { Decides result (stored self ≡ stored other) }
     {
-        let a = self.settled();
-        let b = other.settled();
-        (a.none == b.none) & (a.made == b.made) & (a.unmade == b.unmade)
+        self.settled() == other.settled()
     }
 }
