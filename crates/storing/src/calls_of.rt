@@ -1,10 +1,10 @@
-//! The calls that make a draft's sheet again, one after another.
+//! The calls that make a draft's sheet again, in the order in which they are stored.
 ghost use Rattle.std.specs.Prelude.{◌≡◌, ◌+◌, ◌≤◌, length};
 
 use drafts::draft::Draft;
 use sheets::call::{Arrow, Call, Counts, Rule};
 
-// The states that are marked as final, rising, of the flags that are still to come.
+// The states that are marked as final, rising: those of the flags that are left.
 #[derive(Clone, Copy)]
 struct Finals<'a> {
     // The state of the first flag.
@@ -32,7 +32,8 @@ impl Iterator for Finals<'_> {
     }
 }
 
-// The calls that are still to come: the size if it is set, the rules with their weights, the arrows, the finals.
+// The calls that are left: the size if it is set, the rules with their weights, the arrows, the finals. They are
+// `Copy`, since a store goes over them twice.
 #[derive(Clone, Copy)]
 pub(crate) struct Calls<'a, W> {
     size: Option<Counts>,
@@ -71,7 +72,7 @@ impl<'a, W: Copy> Calls<'a, W> {
         })
     }
 
-    // The call that is next behind the size.
+    // The next call behind the size.
     fn addition(&mut self) -> Option<Call<W>>
         requires { self.old.size ≡ None }
         ensures { YieldsFirst calls_left self.old result self.new }

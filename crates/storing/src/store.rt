@@ -30,7 +30,7 @@ fn call_fits<W: Coded>(call: Call<W>, room: usize) -> Option<usize>
 
 // What is left of a room after the entries of all calls, if they fit in it.
 fn all_fit<W: Coded>(calls: Calls<'_, W>, room: usize) -> Option<usize>
-    ensures { MatchOption result (room < length (spells W.Coded.bytes (calls_left calls.entry))) (λ n. n + length (spells W.Coded.bytes (calls_left calls.entry)) ≡ room) }
+    ensures { let bytes = spells W.Coded.bytes (calls_left calls.entry) in MatchOption result (room < length bytes) (λ n. n + length bytes ≡ room) }
 {
     let mut rest = room;
     for call in calls {
@@ -73,7 +73,7 @@ fn write_call<W: Coded>(call: Call<W>, out: &mut [u8], at: usize) -> Option<usiz
 // Writes the entries of all calls, which have room, and says where they end.
 fn write_all<W: Coded>(calls: Calls<'_, W>, out: &mut [u8]) -> Option<usize>
     requires { length (spells W.Coded.bytes (calls_left calls)) ≤ length out.old }
-    ensures { MatchOption result ⊥ (Written 0 (length (spells W.Coded.bytes (calls_left calls.entry))) (spells W.Coded.bytes (calls_left calls.entry)) out.old out.new) }
+    ensures { let bytes = spells W.Coded.bytes (calls_left calls.entry) in MatchOption result ⊥ (Written 0 (length bytes) bytes out.old out.new) }
 {
     let mut at = 0;
     for call in calls {

@@ -3,7 +3,7 @@ use Rattle.calls.specs.Spell.{spells}
 use Rattle.storing.specs.Left.{calls_left}
 use Rattle.storing.proofs.store.all_fit.Given as goal
 
--- what is left of the room would be left of the whole room if only the calls that are still to come were not counted
+-- the bytes of the calls that have passed are what has gone of the room
 abbrev pub invariant-loop-call : goal.invariant-loop-call
 invariant-loop-call g l =
     (goal.iterator-loop-call g).can_next l.call-iterator

@@ -4,7 +4,7 @@ use Rattle.calls.specs.Spell.{spells}
 use Rattle.storing.specs.Left.{calls_left}
 use Rattle.storing.proofs.store.write_all.Given as goal
 
--- the calls that are still to come, written from `at` on, make the buffer what all calls from the start make it
+-- the calls that are left, written from `at` on, give the buffer that all calls give from the start on
 abbrev pub invariant-loop-call : goal.invariant-loop-call
 invariant-loop-call g l =
     (goal.iterator-loop-call g).can_next l.call-iterator
