@@ -1,6 +1,5 @@
 //! The call that the next entries spell.
 ghost use Rattle.std.specs.Prelude.{◌≡◌, ◌++◌, IfOk};
-ghost use Rattle.reading.specs.Left.{left};
 ghost use Rattle.codec.specs.Coded.{Read};
 ghost use Rattle.calls.specs.Spell.{look_call, spell};
 
@@ -13,7 +12,7 @@ use sheets::call::{Arrow, Call, Counts, RuleForm};
 // was read spells as its very bytes.
 pub fn read_call<W: Coded>(from: &mut Reader<'_>) -> Result<Call<W>, EntryFault>
     ensures reads { Read (look_call W.Coded.look) from.old from.new result }
-    ensures spelled { IfOk result (λ c. left from.old ≡ spell W.Coded.bytes c ++ left from.new) }
+    ensures spelled { IfOk result (λ c. from.old.left ≡ spell W.Coded.bytes c ++ from.new.left) }
 {
     match from.rest() {
         [1, controls, hi, lo, states, ..] => {

@@ -1,17 +1,25 @@
 -- What it is to read a weight, and what the layers read.
-use Rattle.std.specs.Prelude.{◌≡◌, ℕ, ◌+◌, List, drop, IfSome, Ok, Option, Result}
+use Rattle.std.specs.Prelude.{◌≡◌, ℕ, ◌+◌, ◌≤◌, List, length, drop, IfSome, Ok, Option, Result}
 use Rattle.pairs.specs.declared.pair.Pair.{Pair}
 use Rattle.squares.specs.declared.square.Square.{Square}
 use Rattle.reading.specs.declared.fault.EntryFault.{EntryFault}
-use Rattle.reading.specs.declared.reader.Reader.{Reader}
 use Rattle.codec.specs.Look.{Look, done, and_then}
-use Rattle.reading.specs.Left.{left, At}
+use Rattle.reading.specs.Standing.{Standing}
+
+-- where a reader stands that stood at r and read what k says
+abbrev pub behind : {W : Type 0} → Standing → Look W → Standing
+behind r k = record { left = k.left; place = r.place + k.used; passed = r.passed + k.passed }
+
+-- a reader has done what k says and answered with r: of what was left, the bytes that k used are gone, and no others
+pub record Follows {W : Type 0} (k : Look W) (before after : Standing) (r : Result W EntryFault) : Type 0 where
+  pub says : r ≡ k.answer
+  pub stands : after ≡ behind before k
+  pub within : k.used ≤ length before.left
+  pub gone : k.left ≡ drop k.used before.left
 
 -- what a reader has done that read by `look`
-pub record Read {W : Type 0} (look : List ℕ → Look W) (before after : Reader) (r : Result W EntryFault) : Type 0 where
-  pub says : r ≡ (look (left before)).answer
-  pub stands : At after before.input.now (before.at + (look (left before)).used) (before.passed + (look (left before)).passed)
-  pub rest : left after ≡ (look (left before)).left
+abbrev pub Read : {W : Type 0} → (List ℕ → Look W) → Standing → Standing → Result W EntryFault → Type 0
+Read look before after r = Follows (look before.left) before after r
 
 -- l reads as w and leaves `rest`
 pub record Gives {W : Type 0} (look : List ℕ → Look W) (l : List ℕ) (w : W) (rest : List ℕ) : Type 0 where

@@ -1,11 +1,11 @@
 -- One reading after another.
-use Rattle.std.specs.Prelude.{◌≡◌, ℕ, ◌+◌, List, ◌++◌, length, IsErrAnd, Ok, Err, Result, refl}
-use Rattle.std.proofs.Common.{sym, ap, ◌∙◌, append_assoc, arith, length-append}
+use Rattle.std.specs.Prelude.{◌≡◌, ℕ, ◌+◌, List, ◌++◌, length, drop, IsErrAnd, Ok, Err, Result, refl}
+use Rattle.std.proofs.Common.{sym, ap, subst, ◌∙◌, add-zero, add_assoc, append_assoc, arith, length-append, length-drop}
+use Rattle.std.proofs.lemmas.List.{drop-drop}
 use Rattle.reading.specs.declared.fault.EntryFault.{EntryFault}
-use Rattle.reading.specs.declared.reader.Reader.{Reader}
 use Rattle.codec.specs.Look.{Look, done, onward, and_then}
-use Rattle.reading.specs.Left.{left}
-use Rattle.codec.specs.Coded.{Read, Gives, pair_with, look_pair, with_one, with_two, with_three, look_square}
+use Rattle.reading.specs.Standing.{Standing}
+use Rattle.codec.specs.Coded.{behind, Follows, Read, Gives, pair_with, look_pair, with_one, with_two, with_three, look_square}
 use Rattle.pairs.specs.Pairs.{Both, both, both_is}
 use Rattle.squares.specs.Squares.{Quad, quad, quad_is}
 use Rattle.pairs.specs.declared.pair.Pair.{Pair}
@@ -22,6 +22,18 @@ pub then_err : {V W : Type 0} (k : Look V) (f : V → List ℕ → Look W) (e : 
     → and_then k f ≡ record { answer = Err e; used = k.used; passed = k.passed; left = k.left }
 then_err k f e q = ap (onward k.used k.passed k.left f) q
 
+-- what two readers did, one after the other
+pub follows_then : {V W : Type 0} (k : Look V) (m : Look W) (before mid after : Standing) {v : V} {r : Result W EntryFault}
+    → Follows k before mid (Ok v) → Follows m mid after r → Follows (added k.used k.passed m) before after r
+follows_then k m before mid after p q =
+    let left : mid.left ≡ drop k.used before.left = ap (λ s. s.left) p.stands ∙ p.gone in
+    record {
+      says = q.says;
+      stands = q.stands ∙ ap (λ s. behind s m) p.stands ∙ simp add_assoc;
+      within = omega (arith, p.within, q.within, ap length left, length-drop k.used before.left);
+      gone = q.gone ∙ ap (drop m.used) left ∙ drop-drop m.used k.used before.left;
+    }
+
 module _ {V W : Type 0} (f : List ℕ → Look V) (g : V → List ℕ → Look W) where
   abbrev both_looks : List ℕ → Look W
   both_looks l = and_then (f l) g
@@ -31,44 +43,28 @@ module _ {V W : Type 0} (f : List ℕ → Look V) (g : V → List ℕ → Look W
       let e = then_ok (f l) g v m p.says p.leaves in
       record { says = ap (λ k. k.answer) e ∙ q.says; leaves = ap (λ k. k.left) e ∙ q.leaves }
 
-  pub read_then : (before mid after : Reader) {v : V} {r : Result W EntryFault} → Read f before mid (Ok v) → Read (g v) mid after r → Read both_looks before after r
+  pub read_then : (before mid after : Standing) {v : V} {r : Result W EntryFault} → Read f before mid (Ok v) → Read (g v) mid after r → Read both_looks before after r
   read_then before mid after {v} {r} p q =
-      let e = then_ok (f (left before)) g v (left mid) (sym p.says) (sym p.rest) in
-      record {
-        says = q.says ∙ sym (ap (λ k. k.answer) e);
-        stands = record {
-          same = q.stands.same ∙ p.stands.same;
-          there = q.stands.there ∙ omega (arith, p.stands.there) ∙ ap (λ k. before.at + k.used) (sym e);
-          count = q.stands.count ∙ omega (arith, p.stands.count) ∙ ap (λ k. before.passed + k.passed) (sym e);
-        };
-        rest = q.rest ∙ ap (λ k. k.left) (sym e);
-      }
+      subst (λ k. Follows k before after r) (sym (then_ok (f before.left) g v mid.left (sym p.says) (ap (λ s. s.left) (sym p.stands))))
+      (follows_then (f before.left) (g v mid.left) before mid after p q)
 
   -- a fault of the first is the fault of both
-  pub read_stop : (before after : Reader) {e : EntryFault} → Read f before after (Err e) → Read both_looks before after (Err e)
+  pub read_stop : (before after : Standing) {e : EntryFault} → Read f before after (Err e) → Read both_looks before after (Err e)
   read_stop before after {e} p =
-      let q = then_err (f (left before)) g e (sym p.says) in
-      record {
-        says = sym (ap (λ k. k.answer) q);
-        stands = record {
-          same = p.stands.same;
-          there = p.stands.there ∙ ap (λ k. before.at + k.used) (sym q);
-          count = p.stands.count ∙ ap (λ k. before.passed + k.passed) (sym q);
-        };
-        rest = p.rest ∙ ap (λ k. k.left) (sym q);
-      }
+      subst (λ k. Follows k before after (Err e)) (sym (then_err (f before.left) g e (sym p.says)))
+      (record { says = refl; stands = p.stands; within = p.within; gone = p.gone })
 
 -- a fault that was handed on
-pub read_fault : {W : Type 0} {look : List ℕ → Look W} {before after : Reader} {e : EntryFault} (r : Result W EntryFault)
-    → IsErrAnd r (λ d. d ≡ e) → Read look before after (Err e) → Read look before after r
+pub read_fault : {W : Type 0} {k : Look W} {before after : Standing} {e : EntryFault} (r : Result W EntryFault)
+    → IsErrAnd r (λ d. d ≡ e) → Follows k before after (Err e) → Follows k before after r
 read_fault (Ok w) h p = absurd h
-read_fault (Err d) h p = record { says = ap Err h ∙ p.says; stands = p.stands; rest = p.rest }
+read_fault (Err d) h p = rw h p
 
 pub gives_done : {W : Type 0} (w : W) (l : List ℕ) → Gives (done w) l w l
 gives_done w l = record { says = refl; leaves = refl }
 
-pub read_done : {W : Type 0} (w : W) (r : Reader) → Read (done w) r r (Ok w)
-read_done w r = record { says = refl; stands = record { same = refl; there = omega arith; count = omega arith }; rest = refl }
+pub read_done : {W : Type 0} (w : W) (r : Standing) → Read (done w) r r (Ok w)
+read_done w r = record { says = refl; stands = simp add-zero; within = omega arith; gone = refl }
 
 -- the bytes of one after those of another
 pub spelled_then : (a b l m n : List ℕ) → l ≡ a ++ m → m ≡ b ++ n → l ≡ (a ++ b) ++ n

@@ -1,7 +1,6 @@
 //! The interface of weights that are read and written as entries.
 ghost use Rattle.std.specs.Prelude.{◌≡◌, ℕ, ◌+◌, ◌<◌, List, ◌++◌, length, IfOk, MatchOption};
 ghost use Rattle.codec.specs.Coded.{Read, ReadsAs, ReadsBack};
-ghost use Rattle.reading.specs.Left.{left};
 ghost use Rattle.codec.specs.Look.{Look};
 ghost use Rattle.reading.specs.Splice.{Wrote};
 
@@ -23,7 +22,7 @@ pub trait Coded: Weight {
     // was read writes as its very bytes.
     fn read(from: &mut Reader<'_>) -> Result<Self, EntryFault>
         ensures reads { Read look from.old from.new result }
-        ensures spelled { IfOk result (λ w. left from.old ≡ bytes w ++ left from.new) };
+        ensures spelled { IfOk result (λ w. from.old.left ≡ bytes w ++ from.new.left) };
 
     // What is left of a room after a weight's entries, if they fit in it.
     fn fits(room: usize) -> Option<usize>

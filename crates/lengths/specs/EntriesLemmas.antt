@@ -1,14 +1,10 @@
 -- Lengths as entries.
-use Rattle.std.specs.Prelude.{◌≡◌, ℕ, ◌+◌, ◌*◌, ◌<◌, ◌≤◌, min, Bool, List, ◌∷◌, ◌++◌, length, Some, Ok, slice_index, slice_index_or, refl}
-use Rattle.std.proofs.Common.{sym, ap, ◌∙◌, arith}
-use Rattle.std.specs.Int.Digits.{number_from_digits}
-use Rattle.reading.specs.declared.reader.Reader.{Reader}
-use Rattle.reading.specs.Left.{left, Passes}
+use Rattle.std.specs.Prelude.{◌≡◌, ℕ, ◌≤◌, min, List, ◌∷◌, refl}
+use Rattle.std.proofs.Common.{ap, ◌∙◌, arith}
 use Rattle.codec.specs.Look.{wide}
-use Rattle.codec.specs.Coded.{Read}
 use Rattle.codec.specs.Codes.{Code}
-use Rattle.codec.proofs.Leaves.{leaf_code, leaf_read, leaf_spelled, firsts, length_wide, number_wide, wide_firsts}
-use Rattle.lengths.specs.Entries.{to_length, look_length}
+use Rattle.codec.proofs.Leaves.{leaf_code, firsts, length_wide, number_wide}
+use Rattle.lengths.specs.Entries.{to_length}
 use Rattle.lengths.specs.Lengths.{Capped, capped, capped_is, longest}
 use Rattle.lengths.specs.declared.weight.Length.{Length}
 
@@ -17,21 +13,6 @@ length_code =
     leaf_code to_length 17 2 (λ x. capped x.0) (λ x. wide 2 (min x.0 longest))
     (λ x. length_wide 2 (min x.0 longest))
     (λ x. record { weight = _; made = refl; means = capped_is _ _ (omega (arith, number_wide 2 (min x.0 longest))) })
-
--- a reader that passed a length's entry
-module _ (before after : Reader) (l : List ℕ) (there : l ≡ left before) (long : 3 ≤ length l) (kind : slice_index_or l 0 0 ≡ 17)
-    (v : ℕ) (is : v ≡ slice_index l 1 * 256 + slice_index l 2) (b : Bool) (passes : Passes 3 before after b) where
-  same : number_from_digits 256 (firsts 1 2 l) ≡ v
-  same = omega (arith, is)
-
-  pub reads_length : Read look_length before after (Ok (record { 0 = v }))
-  reads_length = leaf_read to_length 17 2 before l there long kind after b (record { 0 = v }) (omega arith) (ap (λ n. Some (record { 0 = n })) same) passes
-
-  pub spells_length : ((k : ℕ) → slice_index l k < 256) → left before ≡ (17 ∷ wide 2 (min v longest)) ++ left after
-  spells_length small =
-      let fits : number_from_digits 256 (firsts 1 2 l) ≡ min v longest = omega (arith, is, small 1, small 2) in
-      leaf_spelled to_length 17 2 before l there long kind after b (wide 2 (min v longest)) (omega arith)
-      (sym (wide_firsts 2 1 l small) ∙ ap (wide 2) fits) passes
 
 pub written_length : (v : ℕ) (bs : List ℕ) → v ≤ longest → bs ≡ wide 2 v → 17 ∷ firsts 0 2 bs ≡ 17 ∷ wide 2 (min v longest)
 written_length v bs h e =

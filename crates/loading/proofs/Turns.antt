@@ -1,12 +1,10 @@
 -- One turn of a load.
-use Rattle.std.proofs.Common.{◌≡◌, ℕ, zero, suc, ◌+◌, ◌-◌, ◌<◌, ◌≤◌, true, false, cond, List, [], ◌∷◌, ◌++◌, length, take, drop, None, Ok, Err, Result, sym, refl, ap, ◌∙◌, append_assoc, append-nil, arith, length-append, length-drop}
-use Rattle.std.proofs.lemmas.List.{take_at, take_all, take-append-drop, length-take-le, map_push}
+use Rattle.std.proofs.Common.{◌≡◌, ℕ, zero, suc, ◌+◌, ◌-◌, ◌<◌, ◌≤◌, true, false, cond, List, [], ◌∷◌, ◌++◌, length, None, Ok, Err, Result, sym, refl, ap, ◌∙◌, append_assoc, append-nil, arith, length-append, length-drop}
+use Rattle.std.proofs.lemmas.List.{nil_from_length, map_push}
 use Rattle.reading.specs.declared.fault.EntryFault.{EntryFault}
-use Rattle.reading.specs.declared.reader.Reader.{Reader}
 use Rattle.codec.specs.Look.{Look}
-use Rattle.reading.specs.Left.{left, At}
+use Rattle.reading.specs.Standing.{Standing, start}
 use Rattle.codec.specs.Coded.{Read}
-use Rattle.reading.proofs.Passing.{length_left}
 use Rattle.sheets.specs.declared.fault.SheetFault.{SheetFault}
 use Rattle.sheets.specs.declared.call.Call.{Call}
 use Rattle.sheets.specs.Sheet.{Sheet, blank}
@@ -52,12 +50,12 @@ module _ {W : Type 0} (look : List ℕ → Look W) where
       ap (λ b. cond b (stopped s None) (read_on s t (parse look n t k.left) k.answer)) e
 
   -- where a reader stands that has read a call, or met a fault in one
-  stands_beyond : (rd rd' : Reader) (r : Result (Call W) EntryFault) → Read (look_call look) rd rd' r → spot_of rd' ≡ beyond (spot_of rd) (left rd) (look_call look (left rd))
+  stands_beyond : (rd rd' : Standing) (r : Result (Call W) EntryFault) → Read (look_call look) rd rd' r → spot_of rd' ≡ beyond (spot_of rd) rd.left (look_call look rd.left)
   stands_beyond rd rd' r p =
-      let k = look_call look (left rd) in
-      let count : rd'.passed + 1 ≡ rd.passed + 1 + k.passed = omega (arith, p.stands.count) in
-      let place : rd'.at ≡ rd.at + (length (left rd) - length k.left) =
-      omega (arith, p.stands.there, ap length p.rest, length_left rd, length_left rd', ap length p.stands.same, rd.within, rd'.within) in
+      let k = look_call look rd.left in
+      let count : rd'.passed + 1 ≡ rd.passed + 1 + k.passed = omega (arith, ap (λ s. s.passed) p.stands) in
+      let place : rd'.place ≡ rd.place + (length rd.left - length k.left) =
+      omega (arith, ap (λ s. s.place) p.stands, p.within, ap length p.gone, length-drop k.used rd.left) in
       (λ i. spot_at (count i) (place i))
 
 took_err : {S : Type 0} (to : Result S SheetFault) (before behind : S) (f : SheetFault) → Took {A = Unit {0}} to tt before behind (Err f) → (to ≡ Err f) × (behind ≡ before)
@@ -65,10 +63,10 @@ took_err (Ok t) before behind f p = let a = p.answer in no_fault {t = tt} a
 took_err (Err e) before behind f p = let a = p.answer in (cc, p.state)
 
 -- the two faults of the next call
-module _ {W : Type 0} (look : List ℕ → Look W) (rd rd' : Reader) (s : State W) (e : LoadFault) where
+module _ {W : Type 0} (look : List ℕ → Look W) (rd rd' : Standing) (s : State W) (e : LoadFault) where
   pub not_read : (f : EntryFault) (p : Spot) → Read (look_call look) rd rd' (Err f) → p ≡ spot_of rd' → e ≡ of_entry p f → Failed look rd s s e
   not_read f p r there is = record {
-    fault = ap (read_made (spot_of rd) (beyond (spot_of rd) (left rd) (look_call look (left rd))) s) (sym r.says)
+    fault = ap (read_made (spot_of rd) (beyond (spot_of rd) rd.left (look_call look rd.left)) s) (sym r.says)
         ∙ ap (λ q. Err (of_entry q f)) (sym (stands_beyond look rd rd' (Err f) r) ∙ sym there) ∙ ap Err (sym is);
     same = refl;
   }
@@ -77,7 +75,7 @@ module _ {W : Type 0} (look : List ℕ → Look W) (rd rd' : Reader) (s : State 
   not_taken c t f p r k there is =
       let q = took_err (step c s) s t f k in
       record {
-        fault = ap (read_made (spot_of rd) (beyond (spot_of rd) (left rd) (look_call look (left rd))) s) (sym r.says)
+        fault = ap (read_made (spot_of rd) (beyond (spot_of rd) rd.left (look_call look rd.left)) s) (sym r.says)
             ∙ ap (made_at (spot_of rd)) q.0 ∙ ap (λ q. Err (of_sheet q f)) (sym there) ∙ ap Err (sym is);
         same = q.1;
       }
@@ -103,79 +101,66 @@ module _ {W : Type 0} where
   fault_ends p t rest s e (Ok c) q = refused_here p (finish rest) s e (step c s) q
   fault_ends p t rest s e (Err f) q = let same : of_entry t f ≡ e = cc in ap (λ z. record { state = s; answer = Err z }) same
 
--- the bytes of one more call
-spelled_more : {W : Type 0} (by : W → List ℕ) (cs : List (Call W)) (c : Call W) (l : List ℕ) (m n : ℕ) → m ≤ length l → n ≤ length l
-    → drop m l ≡ spell by c ++ drop n l → take m l ≡ spells by cs → take n l ≡ spells by (cs ++ c ∷ [])
-spelled_more by cs c l m n hm hn e q =
-    let len : length (drop m l) ≡ length (spell by c) + length (drop n l) = ap length e ∙ length-append (spell by c) (drop n l) in
-    let whole : l ≡ (take m l ++ spell by c) ++ drop n l =
-    sym (take-append-drop m l) ∙ ap (λ k. take m l ++ k) e ∙ sym (append_assoc (take m l) (spell by c) (drop n l)) in
-    let front : length (take m l ++ spell by c) ≡ n =
-    length-append (take m l) (spell by c) ∙ omega (arith, len, length-drop m l, length-drop n l, length-take-le m l hm, spell_some by c) in
-    ap (take n) whole ∙ take_at (take m l ++ spell by c) (drop n l) n front ∙ ap (λ k. k ++ spell by c) q ∙ sym (spells_push by cs c)
-
 module _ {W : Type 0} (look : List ℕ → Look W) (by : W → List ℕ) (bytes : List ℕ) (first : State W) where
   -- what a load keeps from turn to turn: the calls before the reader are made
-  pub record Keeps (rd : Reader) (s : State W) : Type 0 where
-    pub same : rd.input.now ≡ bytes
+  pub record Keeps (rd : Standing) (s : State W) : Type 0 where
     pub before : List (Placed W)
     pub turns : ℕ
-    pub enough : length (left rd) ≤ turns
-    pub parsing : parsed look bytes ≡ after before (parse look turns (spot_of rd) (left rd))
+    pub enough : length rd.left ≤ turns
+    pub parsing : parsed look bytes ≡ after before (parse look turns (spot_of rd) rd.left)
     pub led : replay (calls_at before) first ≡ Ok s
-    pub spelled : take rd.at bytes ≡ spells by (calls_at before)
+    pub spelled : bytes ≡ spells by (calls_at before) ++ rd.left
+    pub place : rd.place + length rd.left ≡ length bytes
 
-  pub starts : (rd : Reader) → At rd bytes 0 0 → Keeps rd first
-  starts rd a = record {
-    same = a.same;
+  pub starts : (rd : Standing) → rd ≡ start bytes → Keeps rd first
+  starts rd e = rw e (record {
     before = [];
     turns = length bytes;
-    enough = omega (arith, length_left rd, ap length a.same);
-    parsing = λ i. parse look (length bytes) (spot_at (sym a.count i + 1) (sym a.there i)) (drop (sym a.there i) (sym a.same i));
+    enough = omega arith;
+    parsing = refl;
     led = refl;
-    spelled = ap (λ n. take n bytes) a.there;
-  }
+    spelled = refl;
+    place = omega arith;
+  })
 
   -- what is still to be done
-  left_to_do : (rd : Reader) (s : State W) (x : Keeps rd s) → loading look bytes first ≡ finish (parse look x.turns (spot_of rd) (left rd)) s
+  left_to_do : (rd : Standing) (s : State W) (x : Keeps rd s) → loading look bytes first ≡ finish (parse look x.turns (spot_of rd) rd.left) s
   left_to_do rd s x = ap (λ p. finish p first) x.parsing ∙ run_after x.before _ _ first s x.led
 
-  pub record Turned (rd rd' : Reader) (t : State W) : Type 0 where
+  pub record Turned (rd rd' : Standing) (t : State W) : Type 0 where
     pub keeps : Keeps rd' t
-    pub less : length (left rd') < length (left rd)
+    pub less : length rd'.left < length rd.left
 
-  pub turn : (rd rd' : Reader) (s t : State W) → Keeps rd s → ends (left rd) ≡ false → Called look by rd rd' s t → Turned rd rd' t
+  pub turn : (rd rd' : Standing) (s t : State W) → Keeps rd s → ends rd.left ≡ false → Called look by rd rd' s t → Turned rd rd' t
   turn rd rd' s t x h c =
-      let k = look_call look (left rd) in
+      let k = look_call look rd.left in
       let r = c.reads in
       let p = placed (spot_of rd) c.call in
-      let more = fewer x.turns (length (left rd)) (some_left (left rd) h) x.enough in
-      let less : length (left rd') < length (left rd) = omega (arith, ap length c.spelled, length-append (spell by c.call) (left rd'), spell_some by c.call) in
-      let same : rd'.input.now ≡ bytes = r.stands.same ∙ x.same in
+      let more = fewer x.turns (length rd.left) (some_left rd.left h) x.enough in
+      let less : length rd'.left < length rd.left = omega (arith, ap length c.spelled, length-append (spell by c.call) rd'.left, spell_some by c.call) in
       let beyond_it = stands_beyond look rd rd' (Ok c.call) r in
-      let one : parse look x.turns (spot_of rd) (left rd) ≡ after (p ∷ []) (parse look more.0 (spot_of rd') (left rd')) =
-      ap (λ n. parse look n (spot_of rd) (left rd)) more.1
-      ∙ parse_on look more.0 (spot_of rd) (left rd) h
-      ∙ ap (read_on (spot_of rd) (beyond (spot_of rd) (left rd) k) (parse look more.0 (beyond (spot_of rd) (left rd) k) k.left)) (sym r.says)
-      ∙ (λ i. after (p ∷ []) (parse look more.0 (sym beyond_it i) (sym r.rest i))) in
+      let one : parse look x.turns (spot_of rd) rd.left ≡ after (p ∷ []) (parse look more.0 (spot_of rd') rd'.left) =
+      ap (λ n. parse look n (spot_of rd) rd.left) more.1
+      ∙ parse_on look more.0 (spot_of rd) rd.left h
+      ∙ ap (read_on (spot_of rd) (beyond (spot_of rd) rd.left k) (parse look more.0 (beyond (spot_of rd) rd.left k) k.left)) (sym r.says)
+      ∙ (λ i. after (p ∷ []) (parse look more.0 (sym beyond_it i) (sym r.stands i).left)) in
       let calls : calls_at (x.before ++ p ∷ []) ≡ calls_at x.before ++ c.call ∷ [] = map_push (λ (q : Placed W). q.call) x.before p in
-      let parts : drop rd.at bytes ≡ spell by c.call ++ drop rd'.at bytes =
-      ap (drop rd.at) (sym x.same) ∙ c.spelled ∙ ap (λ l. spell by c.call ++ drop rd'.at l) same in
       record {
         keeps = record {
-          same = same;
           before = x.before ++ p ∷ [];
           turns = more.0;
           enough = omega (arith, more.1, x.enough, less);
           parsing = x.parsing ∙ ap (after x.before) one
               ∙ (λ i. record {
-                calls = sym (append_assoc x.before (p ∷ []) (parse look more.0 (spot_of rd') (left rd')).calls) i;
-                spot = (parse look more.0 (spot_of rd') (left rd')).spot;
-                fault = (parse look more.0 (spot_of rd') (left rd')).fault;
+                calls = sym (append_assoc x.before (p ∷ []) (parse look more.0 (spot_of rd') rd'.left).calls) i;
+                spot = (parse look more.0 (spot_of rd') rd'.left).spot;
+                fault = (parse look more.0 (spot_of rd') rd'.left).fault;
               });
           led = ap (λ l. replay l first) calls ∙ replay_push (calls_at x.before) c.call first ∙ ap (bound (step c.call)) x.led ∙ c.takes;
-          spelled = spelled_more by (calls_at x.before) c.call bytes rd.at rd'.at (omega (arith, rd.within, ap length x.same)) (omega (arith, rd'.within, ap length same)) parts x.spelled
-              ∙ ap (spells by) (sym calls);
+          spelled = x.spelled ∙ ap (λ l. spells by (calls_at x.before) ++ l) c.spelled
+              ∙ sym (append_assoc (spells by (calls_at x.before)) (spell by c.call) rd'.left)
+              ∙ ap (λ l. l ++ rd'.left) (sym (spells_push by (calls_at x.before) c.call) ∙ ap (spells by) (sym calls));
+          place = omega (arith, x.place, ap (λ s. s.place) r.stands, ap (λ s. length s.left) r.stands, r.within, ap length r.gone, length-drop k.used rd.left);
         };
         less = less;
       }
@@ -188,32 +173,34 @@ module _ {W : Type 0} (look : List ℕ → Look W) (by : W → List ℕ) (bytes 
     pub answer : r ≡ (loading look bytes (at s strip)).answer
     pub again : s ≡ blank → r ≡ Ok (length bytes) → InOrder (calls_in look bytes) → stored by u.sheet u.strip ≡ bytes
 
-  stored_again : (rd : Reader) (u : State W) → Keeps look by bytes (at s strip) rd u → ends (left rd) ≡ true → s ≡ blank → rd.at ≡ length bytes
+  stored_again : (rd : Standing) (u : State W) → Keeps look by bytes (at s strip) rd u → ends rd.left ≡ true → s ≡ blank → rd.place ≡ length bytes
       → InOrder (calls_in look bytes) → stored by u.sheet u.strip ≡ bytes
   stored_again rd u x h new all o =
       let calls : calls_in look bytes ≡ calls_at x.before =
-      ap (λ p. calls_at p.calls) (x.parsing ∙ ap (after x.before) (parse_end look x.turns (spot_of rd) (left rd) h)) ∙ ap calls_at (append-nil x.before) in
+      ap (λ p. calls_at p.calls) (x.parsing ∙ ap (after x.before) (parse_end look x.turns (spot_of rd) rd.left h)) ∙ ap calls_at (append-nil x.before) in
       let led : replay (calls_in look bytes) (at blank strip) ≡ Ok u = (λ i. replay (calls i) (at (sym new i) strip)) ∙ x.led in
-      ap (spells by) (replayed_again (calls_in look bytes) strip u o led ∙ calls) ∙ sym x.spelled ∙ take_all rd.at bytes (omega arith)
+      let none : rd.left ≡ [] = nil_from_length rd.left (omega (arith, x.place)) in
+      ap (spells by) (replayed_again (calls_in look bytes) strip u o led ∙ calls)
+      ∙ sym (append-nil (spells by (calls_at x.before))) ∙ ap (λ l. spells by (calls_at x.before) ++ l) (sym none) ∙ sym x.spelled
 
-  pub at_end : (rd : Reader) (u : State W) (n : ℕ) → Keeps look by bytes (at s strip) rd u → ends (left rd) ≡ true → n ≡ rd.at → Loads u (Ok n)
+  pub at_end : (rd : Standing) (u : State W) (n : ℕ) → Keeps look by bytes (at s strip) rd u → ends rd.left ≡ true → n ≡ rd.place → Loads u (Ok n)
   at_end rd u n x h e =
-      let k : loading look bytes (at s strip) ≡ record { state = u; answer = Ok rd.at } =
-      left_to_do look by bytes (at s strip) rd u x ∙ ap (λ p. finish p u) (parse_end look x.turns (spot_of rd) (left rd) h) in
+      let k : loading look bytes (at s strip) ≡ record { state = u; answer = Ok rd.place } =
+      left_to_do look by bytes (at s strip) rd u x ∙ ap (λ p. finish p u) (parse_end look x.turns (spot_of rd) rd.left h) in
       record {
         state = ap (λ l. l.state) (sym k);
         answer = ap Ok e ∙ ap (λ l. l.answer) (sym k);
         again = λ new all. stored_again rd u x h new (same_count e all);
       }
 
-  pub at_fault : (rd : Reader) (t u : State W) (e : LoadFault) → Keeps look by bytes (at s strip) rd t → ends (left rd) ≡ false → Failed look rd t u e → Loads u (Err e)
+  pub at_fault : (rd : Standing) (t u : State W) (e : LoadFault) → Keeps look by bytes (at s strip) rd t → ends rd.left ≡ false → Failed look rd t u e → Loads u (Err e)
   at_fault rd t u e x h f =
-      let more = fewer x.turns (length (left rd)) (some_left (left rd) h) x.enough in
+      let more = fewer x.turns (length rd.left) (some_left rd.left h) x.enough in
       let k : loading look bytes (at s strip) ≡ record { state = u; answer = Err e } =
       left_to_do look by bytes (at s strip) rd t x
-      ∙ ap (λ n. finish (parse look n (spot_of rd) (left rd)) t) more.1
-      ∙ ap (λ p. finish p t) (parse_on look more.0 (spot_of rd) (left rd) h)
-      ∙ fault_ends (spot_of rd) _ _ t e (look_call look (left rd)).answer f.fault
+      ∙ ap (λ n. finish (parse look n (spot_of rd) rd.left) t) more.1
+      ∙ ap (λ p. finish p t) (parse_on look more.0 (spot_of rd) rd.left h)
+      ∙ fault_ends (spot_of rd) _ _ t e (look_call look rd.left).answer f.fault
       ∙ ap (λ v. record { state = v; answer = Err e }) (sym f.same) in
       record {
         state = ap (λ l. l.state) (sym k);

@@ -1,9 +1,8 @@
 -- Loading: the bytes are parsed into calls, and the calls are made.
 use Rattle.std.specs.Prelude.{◌≡◌, ℕ, zero, suc, ◌+◌, ◌-◌, Bool, true, cond, List, [], ◌∷◌, ◌++◌, map, length, Some, None, Ok, Err, Option, Result, ◌==◌}
 use Rattle.reading.specs.declared.fault.EntryFault.{EntryFault}
-use Rattle.reading.specs.declared.reader.Reader.{Reader}
 use Rattle.codec.specs.Look.{Look}
-use Rattle.reading.specs.Left.{left}
+use Rattle.reading.specs.Standing.{Standing}
 use Rattle.codec.specs.Coded.{Read}
 use Rattle.sheets.specs.declared.fault.SheetFault.{SheetFault}
 use Rattle.sheets.specs.declared.call.Call.{Call}
@@ -23,8 +22,8 @@ abbrev pub spot_at : ℕ → ℕ → Spot
 spot_at e p = record { entry = e; place = p }
 
 -- where the next entry of a reader is
-abbrev pub spot_of : Reader → Spot
-spot_of r = spot_at (r.passed + 1) r.at
+abbrev pub spot_of : Standing → Spot
+spot_of r = spot_at (r.passed + 1) r.place
 
 -- the spot of what k left of l, which began at the spot s
 abbrev pub beyond : {V : Type 0} → Spot → List ℕ → Look V → Spot
@@ -116,13 +115,13 @@ module _ {W : Type 0} where
   next_call look p l s = read_made p (beyond p l (look_call look l)) s (look_call look l).answer
 
   -- the next call is read and taken
-  pub record Called (look : List ℕ → Look W) (bytes : W → List ℕ) (before behind : Reader) (s t : State W) : Type 0 where
+  pub record Called (look : List ℕ → Look W) (bytes : W → List ℕ) (before behind : Standing) (s t : State W) : Type 0 where
     pub call : Call W
     pub reads : Read (look_call look) before behind (Ok call)
-    pub spelled : left before ≡ spell bytes call ++ left behind
+    pub spelled : before.left ≡ spell bytes call ++ behind.left
     pub takes : step call s ≡ Ok t
 
   -- the next call is at fault, and nothing is added
-  pub record Failed (look : List ℕ → Look W) (before : Reader) (s t : State W) (e : LoadFault) : Type 0 where
-    pub fault : next_call look (spot_of before) (left before) s ≡ Err e
+  pub record Failed (look : List ℕ → Look W) (before : Standing) (s t : State W) (e : LoadFault) : Type 0 where
+    pub fault : next_call look (spot_of before) before.left s ≡ Err e
     pub same : t ≡ s

@@ -1,6 +1,5 @@
 //! Loading a draft from bytes.
 ghost use Rattle.std.specs.Prelude.{◌≡◌, not, length, Ok, MatchResult};
-ghost use Rattle.reading.specs.Left.{left};
 ghost use Rattle.sheets.specs.Sheet.{blank};
 ghost use Rattle.sheets.specs.Questions.{at};
 ghost use Rattle.sheets.specs.Calls.{InOrder};
@@ -16,7 +15,7 @@ use reading::reader::Reader;
 
 // Whether there is an entry to load: a load ends with the bytes, or before an entry of kind 5.
 fn more(from: &Reader<'_>) -> bool
-    ensures { result ≡ not (ends (left from.now)) }
+    ensures { result ≡ not (ends from.now.left) }
 {
     match from.rest() {
         [] | [5, ..] => false,

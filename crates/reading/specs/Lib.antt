@@ -1,3 +1,3 @@
 pub mod Faults
-pub mod Left
 pub mod Splice
+pub mod Standing

@@ -5,24 +5,19 @@ ghost use Rattle.reading.specs.Faults.{fault_number};
 #[derive(Clone, Copy, Debug, Drop, PartialEq, Eq)]
 pub enum EntryFault {
     // No kind that is known here.
-    Unknown,
+    Unknown = 22,
     // The body is cut short.
-    Cut,
+    Cut = 23,
     // The kind of entry that is due is not there.
-    Due,
+    Due = 24,
     // The body is no value of the kind.
-    NoValue,
+    NoValue = 25,
 }
 
 impl EntryFault {
     pub fn number(self) -> u8
         ensures { result ≡ fault_number self }
     {
-        match self {
-            EntryFault::Unknown => 22,
-            EntryFault::Cut => 23,
-            EntryFault::Due => 24,
-            EntryFault::NoValue => 25,
-        }
+        self as u8
     }
 }

@@ -1,7 +1,8 @@
 //! Goes over the input from entry to entry.
-ghost use Rattle.std.specs.Prelude.{◌≡◌, ◌+◌, ◌≤◌, length};
+ghost use Rattle.std.specs.Prelude.{◌≡◌, ◌+◌};
+ghost use Rattle.reading.specs.Standing.{start, Passes};
 
-mod moves;
+use std::marker::Model;
 
 // `at` is where the next entry begins, and `passed` is how many entries stand before it. Each of those has
 // two bytes at least, so their count is well within a `usize`.
@@ -10,11 +11,37 @@ pub struct Reader<'a> {
     input: &'a [u8],
     at: usize,
     passed: usize,
-    ghost within: { at ≤ length input.now },
-    ghost few: { passed + passed ≤ at },
 }
 
-impl Reader<'_> {
+impl<'a> Model for Reader<'a> {
+    ghost use Rattle.std.specs.Prelude.{◌+◌, ◌≤◌, length, drop};
+    ghost use Rattle.reading.specs.Standing.{Standing};
+
+    ghost Value = { Standing };
+
+    ghost view = { λ r. record { left = drop r.at r.input.now; place = r.at; passed = r.passed } };
+
+    ghost invariant = { λ r. (r.at ≤ length r.input.now) × (r.passed + r.passed ≤ r.at) };
+}
+
+impl<'a> Reader<'a> {
+    pub fn new(input: &'a [u8]) -> Reader<'a>
+        ensures { result ≡ start input.now }
+    {
+        Reader {
+            input,
+            at: 0,
+            passed: 0,
+        }
+    }
+
+    // What is not read yet.
+    pub fn rest(&self) -> &'a [u8]
+        ensures { result.now ≡ self.now.left }
+    {
+        &self.input[self.at..]
+    }
+
     // The number of the next entry, counted from 1.
     pub fn number(&self) -> usize
         ensures { result ≡ self.now.passed + 1 }
@@ -24,8 +51,21 @@ impl Reader<'_> {
 
     // Where the next entry begins, counted from 0.
     pub fn place(&self) -> usize
-        ensures { result ≡ self.now.at }
+        ensures { result ≡ self.now.place }
     {
         self.at
+    }
+
+    // Goes past an entry of n bytes, its kind among them. It stays where it is if n bytes are no entry or
+    // are not left.
+    pub fn pass(&mut self, n: usize) -> bool
+        ensures { Passes n self.old self.new result }
+    {
+        if n < 2 || self.rest().len() < n {
+            return false;
+        }
+        self.at += n;
+        self.passed += 1;
+        true
     }
 }
