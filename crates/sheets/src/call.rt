@@ -35,6 +35,7 @@ pub struct Rule {
 }
 
 // A rule as it is handed in: the right side as a length and two symbols, of which the unused are zero.
+// No enum, since the stated record has these bytes, and whether they spell a rule is one of the questions.
 #[derive(Clone, Copy, Debug, PartialEq, Eq)]
 pub struct RuleForm {
     pub from: u8,
