@@ -1,7 +1,6 @@
 -- The widest bottleneck: combining takes the wider, and extending the narrower.
 use Rattle.std.specs.Prelude.{◌≡◌, ℕ, ◌-◌, ◌<◌, ◌≤◌, min, max, ◌≢◌}
 use Rattle.std.proofs.Common.{ap, subst, arith}
-use Rattle.std.proofs.Math.Decide.{dec_lt}
 use Rattle.std.proofs.Math.Bridge.{le_prop}
 use Rattle.weights.specs.Semiring.{Semiring}
 
@@ -38,10 +37,7 @@ left x = widest - x.units
 
 pub left_falls : (x y : Bounded) → (wider x y ≢ x) → left (wider x y) < left x
 left_falls x y ne =
-    elim (dec_lt (left (wider x y)) (left x)) [
-      | yes h ↦ h
-      | no h ↦ absurd (ne (width_is (wider x y) x (omega (arith, h, x.within, y.within))))
-    ]
+    let raised : (wider x y).units ≢ x.units = λ e. ne (width_is (wider x y) x e) in omega (arith, x.within, y.within)
 
 pub max_max : (x y z : ℕ) → max (max x y) z ≡ max x (max y z)
 max_max x y z = omega arith

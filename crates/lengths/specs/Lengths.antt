@@ -2,7 +2,6 @@
 -- that stands for no run at all.
 use Rattle.std.specs.Prelude.{◌≡◌, ℕ, ◌+◌, ◌<◌, ◌≤◌, min, ◌≢◌}
 use Rattle.std.proofs.Common.{ap, subst, arith}
-use Rattle.std.proofs.Math.Decide.{dec_lt}
 use Rattle.std.proofs.Math.Bridge.{le_prop}
 use Rattle.weights.specs.Semiring.{Semiring}
 
@@ -49,10 +48,7 @@ min_min x y z = omega arith
 -- a length that combining has changed is a shorter one
 pub shorter_falls : (x y : Capped) → (shorter x y ≢ x) → (shorter x y).steps < x.steps
 shorter_falls x y ne =
-    elim (dec_lt (shorter x y).steps x.steps) [
-      | yes h ↦ h
-      | no h ↦ absurd (ne (capped_is (shorter x y) x (omega (arith, h))))
-    ]
+    let fallen : (shorter x y).steps ≢ x.steps = λ e. ne (capped_is (shorter x y) x e) in omega arith
 
 abbrev pub lengths : Semiring
 lengths = record {

@@ -1,19 +1,23 @@
--- The loops of a composition, turn by turn.
-use Rattle.std.proofs.Common.{◌≡◌, ℕ, zero, suc, ◌+◌, ◌*◌, ◌/◌, ◌^◌, ◌<◌, Bool, true, false, ◌&&◌, ◌||◌, ◌⊎◌, sym, refl, ap, ◌∙◌, subst, inl, inr, lt_of_lt_of_le, add-one, arith, pow_mono}
+-- Relations by their rows: row i of a relation is byte i of its number.
+use Rattle.std.proofs.Common.{◌≡◌, ℕ, zero, suc, ◌+◌, ◌*◌, ◌/◌, ◌%◌, ◌^◌, ◌<◌, Bool, true, false, ◌&&◌, ◌||◌, List, length, get_or, sym, refl, ap, ◌∙◌, subst, add-zero, add-one, arith, w64}
 use mathlib.Core.Bool.{or-false, or_assoc}
-use native.Mathlib.Decide.{dec_lt}
 use lib.Bits.{bit_and, bit_or}
-use Rattle.std.proofs.lemmas.Nat.{or_lt, and_mask, mod_below, shl_below}
+use denote.Param.Members.{Mut}
+use Rattle.std.specs.Fn.{Called}
+use Rattle.std.specs.Array.{MapsFrom, IsMapOf}
+use Rattle.std.specs.Int.{to_le_bytes, from_le_bytes}
+use Rattle.std.proofs.lemmas.Grind.{common_steps}
+use Rattle.std.proofs.lemmas.Nat.{and_mask, le_bytes_8}
 use Rattle.std.proofs.lemmas.Bool.{eq-eqb, ne_eqb}
 use Rattle.bits.specs.Bit.{bit}
 use Rattle.bits.specs.Upto.{place, some}
-use Rattle.bits.proofs.Bitwise.{bit_zero, bit-or, bit_mod, bit_shr, bit_high, bit_shl, bit_below}
+use Rattle.bits.proofs.Bitwise.{bit-or, bit_mod, bit_shr}
 use Rattle.bits.proofs.Uptos.{place_below}
-use Rattle.relations.specs.Relations.{Flag, compose, pairs}
+use Rattle.relations.specs.Relations.{Flag, compose, pairs, IsUnionOfPicked}
 
 -- ---- some number below n has it, counted up as a loop does
 
-abbrev below : ℕ → (ℕ → Bool) → Bool
+abbrev pub below : ℕ → (ℕ → Bool) → Bool
 below zero f = false
 below (suc n) f = below n f || f n
 
@@ -21,109 +25,72 @@ below_first : (n : ℕ) (f : ℕ → Bool) → below (suc n) f ≡ (f 0 || below
 below_first zero f = sym (or-false (f 0))
 below_first (suc n) f = ap (λ b. b || f (suc n)) (below_first n f) ∙ or_assoc (f 0) (below n (λ k. f (suc k))) (f (suc n))
 
-below_some : (n : ℕ) (f : ℕ → Bool) → below n f ≡ some n (λ i. f (place n i))
+pub below_some : (n : ℕ) (f : ℕ → Bool) → below n f ≡ some n (λ i. f (place n i))
 below_some zero f = refl
 below_some (suc n) f = below_first n f ∙ ap (λ b. f 0 || b) (below_some n (λ k. f (suc k)))
 
--- ---- one byte of a number
+-- ---- the rows that some picks name, united
 
-byte_bit : (n s j : ℕ) → j < 8 → bit (bit_and (n / 2 ^ s) 255) j ≡ bit n (s + j)
-byte_bit n s j h = ap (λ (m : ℕ). bit m j) (and_mask (n / 2 ^ s) 8) ∙ bit_mod (n / 2 ^ s) 8 j h ∙ bit_shr n s j
-
-byte_small : (n : ℕ) → bit_and n 255 < 2 ^ 8
-byte_small n = rw (and_mask n 8) (mod_below n 256 (omega arith))
-
--- ---- the rows of b that some picks name, united
-
-module _ (picks rows : ℕ) where
-  -- row j of `rows` is picked, and has k
-  abbrev Picked : Flag → ℕ → Bool
-  Picked k j = bit picks j && bit rows (8 * j + place 8 k)
+module _ (picks : ℕ) (rows : List ℕ) where
+  -- row j is picked, and has k
+  abbrev pub Picked : Flag → ℕ → Bool
+  Picked k j = bit picks j && bit (get_or rows j 0) (place 8 k)
 
   -- the first n rows are done
   abbrev pub Rowed : ℕ → ℕ → Type 0
-  Rowed n row = (row < 2 ^ 8) × ((k : Flag) → bit row (place 8 k) ≡ below n (Picked k))
+  Rowed n all = (k : Flag) → bit all (place 8 k) ≡ below n (Picked k)
 
-  pub rowed_none : Rowed 0 0
-  rowed_none = (omega arith, λ k. bit_zero (place 8 k))
+  -- row n, by whether it is picked
+  turn : (n next : ℕ) (k : Flag) (b : Bool) → bit picks n ≡ b → bit next (place 8 k) ≡ (below n (Picked k) || (b && bit (get_or rows n 0) (place 8 k)))
+      → bit next (place 8 k) ≡ below (n + 1) (Picked k)
+  turn n next k b is e = rw (add-one, is) e
 
-  turn : (n row : ℕ) (k : Flag) (b : Bool) → bit row (place 8 k) ≡ (below n (Picked k) || (b && bit rows (8 * n + place 8 k)))
-      → bit picks n ≡ b → bit row (place 8 k) ≡ below (n + 1) (Picked k)
-  turn n row k b e is =
-      e ∙ ap (λ c. below n (Picked k) || (c && bit rows (8 * n + place 8 k))) (sym is)
-      ∙ ap (λ (m : ℕ). below m (Picked k)) (sym (add-one n))
+  pub rowed_yes : (n all : ℕ) → Rowed n all → bit_and (picks / 2 ^ n) 1 ≡ 1 → Rowed (n + 1) (bit_or all (get_or rows n 0))
+  rowed_yes n all h set k =
+      turn n _ k true (eq-eqb _ _ (sym (and_mask (picks / 2 ^ n) 1) ∙ set)) (bit-or all (get_or rows n 0) (place 8 k) ∙ (λ t. h k t || bit (get_or rows n 0) (place 8 k)))
 
-  pub rowed_yes : (n row : ℕ) → Rowed n row → bit_and (picks / 2 ^ n) 1 ≡ 1 → Rowed (n + 1) (bit_or row (bit_and (rows / 2 ^ (8 * n)) 255))
-  rowed_yes n row h set =
-      let byte : ℕ = bit_and (rows / 2 ^ (8 * n)) 255 in (
-        or_lt 8 row byte h.0 (byte_small (rows / 2 ^ (8 * n))),
-        λ k. turn n (bit_or row byte) k true
-            (bit-or row byte (place 8 k) ∙ (λ t. h.1 k t || byte_bit rows (8 * n) (place 8 k) (place_below 8 k) t))
-            (eq-eqb _ _ (sym (and_mask (picks / 2 ^ n) 1) ∙ set)),
-      )
+  pub rowed_no : (n all : ℕ) → Rowed n all → (bit_and (picks / 2 ^ n) 1 ≡ 1 → ⊥) → Rowed (n + 1) all
+  rowed_no n all h clear k =
+      turn n all k false (ne_eqb _ _ (λ e. clear (and_mask (picks / 2 ^ n) 1 ∙ e))) (h k ∙ sym (or-false _))
 
-  pub rowed_no : (n row : ℕ) → Rowed n row → (bit_and (picks / 2 ^ n) 1 ≡ 1 → ⊥) → Rowed (n + 1) row
-  rowed_no n row h clear = (
-    h.0,
-    λ k. turn n row k false
-        (h.1 k ∙ sym (or-false (below n (Picked k))))
-        (ne_eqb _ _ (λ e. clear (and_mask (picks / 2 ^ n) 1 ∙ e))),
-  )
+  pub rowed_all : (n all : ℕ) → n ≡ 8 → Rowed n all → IsUnionOfPicked picks rows all
+  rowed_all n all e h = record { flags = λ k. rw e at (h k) ∙ below_some 8 (Picked k) }
 
-  pub rowed_all : (n row : ℕ) → n ≡ 8 → Rowed n row → (k : Flag) → bit row (place 8 k) ≡ some 8 (λ j. bit picks (place 8 j) && pairs rows j k)
-  rowed_all n row e h k = h.1 k ∙ ap (λ (m : ℕ). below m (Picked k)) e ∙ below_some 8 (Picked k)
+-- ---- what each call of a closure gave, where no call changes the closure
 
--- ---- the rows of a composition, one after the other
+module _ {F A B : Type 0} {g : Mut F (A × Unit {0}) B} {f : F} (R : A → B → Type 0) (call : (x : A) (y : B) (q : F) → Called g f (x, tt) y q → R x y × (q ≡ f))
+    (xs : List A) (ys : List B) (d : A) (e : B) where
+  each_from : (i n j k : ℕ) → MapsFrom g f xs ys i n → j < n → k ≡ i + j → R (get_or xs k d) (get_or ys k e)
+  each_from i zero j k m h is = absurd (omega arith)
+  each_from i (suc n) zero k m h is = rw (is, add-zero, m.3.1 d, m.4.1 e) (call m.1 m.2 m.0 m.5).0
+  each_from i (suc n) (suc j) k m h is =
+      each_from (i + 1) n j k (subst (λ q. MapsFrom g q xs ys (i + 1) n) (call m.1 m.2 m.0 m.5).1 m.6) (omega arith) (omega arith)
 
-before_or_at : (m n : ℕ) → m < n + 1 → (m < n) ⊎ (m ≡ n)
-before_or_at m n h = elim (dec_lt m n) [ yes l ↦ inl l | no l ↦ inr (omega (arith, h, l)) ]
+  pub each_mapped : (n : ℕ) → IsMapOf g f xs ys n → (k : ℕ) → k < n → R (get_or xs k d) (get_or ys k e)
+  each_mapped n m k h = each_from 0 n k k m.each h (omega arith)
 
-under_row : (i k n : ℕ) → i < n → k < 8 → 8 * i + k < 8 * n
-under_row i k n h l = omega (arith, h, l)
+-- ---- the rows of a composition
 
-module _ (a b : ℕ) where
-  -- the first n rows are in place, and nothing is above them
-  abbrev pub Built : ℕ → ℕ → Type 0
-  Built n out = (out < 2 ^ (8 * n)) × ((i k : Flag) → place 8 i < n → pairs out i k ≡ compose (pairs a) (pairs b) i k)
+row_is : (n : ℕ) (i : Flag) → get_or (to_le_bytes w64 n) (place 8 i) 0 ≡ n / 2 ^ (8 * place 8 i) % 2 ^ 8
+row_is n i = grind arith
 
-  pub built_none : Built 0 0
-  built_none = (omega arith, λ i k h. absurd (omega (arith, h)))
+row_flag : (n : ℕ) (rows : List ℕ) → rows ≡ to_le_bytes w64 n → (i k : Flag) → bit (get_or rows (place 8 i) 0) (place 8 k) ≡ pairs n i k
+row_flag n rows e i k =
+    ap (λ l. bit (get_or l (place 8 i) 0) (place 8 k)) e
+    ∙ ap (λ (m : ℕ). bit m (place 8 k)) (row_is n i)
+    ∙ bit_mod (n / 2 ^ (8 * place 8 i)) 8 (place 8 k) (place_below 8 k)
+    ∙ bit_shr n (8 * place 8 i) (place 8 k)
 
-  -- the row n of a, with the rows of b that it names united
-  abbrev pub Row : ℕ → ℕ → Type 0
-  Row n row = (k : Flag) → bit row (place 8 k) ≡ some 8 (λ j. bit (a / 2 ^ (8 * n)) (place 8 j) && pairs b j k)
+small_bytes : (bytes : List ℕ) → length bytes ≡ 8 → ((k : ℕ) → k < 8 → get_or bytes k 0 < 256) → (k : ℕ) → get_or bytes k 0 < 256
+small_bytes bytes long small k = grind (arith, common_steps, small k)
 
-  module _ (n out row : ℕ) (built : Built n out) (small : row < 2 ^ 8) (bits : Row n row) where
-    abbrev next : ℕ
-    next = bit_or out (row * 2 ^ (8 * n))
-
-    next_small : next < 2 ^ (8 * (n + 1))
-    next_small =
-        subst (λ (m : ℕ). next < 2 ^ m) {x = 8 + 8 * n} (omega arith)
-        (or_lt (8 + 8 * n) out (row * 2 ^ (8 * n)) (lt_of_lt_of_le built.0 (pow_mono {i = 8 * n} {j = 8 + 8 * n} (omega arith))) (shl_below row 8 (8 * n) small))
-
-    old_row : (i k : Flag) → place 8 i < n → pairs next i k ≡ compose (pairs a) (pairs b) i k
-    old_row i k h =
-        let under : 8 * place 8 i + place 8 k < 8 * n = under_row (place 8 i) (place 8 k) n h (place_below 8 k) in
-        bit-or out (row * 2 ^ (8 * n)) (8 * place 8 i + place 8 k)
-        ∙ (λ t. built.1 i k h t || bit_below row (8 * n) (8 * place 8 i + place 8 k) under t)
-        ∙ or-false (compose (pairs a) (pairs b) i k)
-
-    new_row : (i k : Flag) → place 8 i ≡ n → pairs next i k ≡ compose (pairs a) (pairs b) i k
-    unfolding compose
-    new_row i k e =
-        ap (λ (m : ℕ). bit next (8 * m + place 8 k)) e
-        ∙ bit-or out (row * 2 ^ (8 * n)) (8 * n + place 8 k)
-        ∙ (λ t. bit_high out (8 * n) (place 8 k) built.0 t || bit_shl row (8 * n) (place 8 k) t)
-        ∙ bits k
-        ∙ (λ t. some 8 (λ j. bit_shr a (8 * n) (place 8 j) t && pairs b j k))
-        ∙ ap (λ (m : ℕ). some 8 (λ j. bit a (8 * m + place 8 j) && pairs b j k)) (sym e)
-
-    pub built_more : Built (n + 1) next
-    built_more = (
-      next_small,
-      λ i k h. elim (before_or_at (place 8 i) n h) [ inl l ↦ old_row i k l | inr e ↦ new_row i k e ],
-    )
-
-  pub built_all : (n out : ℕ) → n ≡ 8 → Built n out → pairs out ≡ compose (pairs a) (pairs b)
-  built_all n out e h = λ t i k. h.1 i k (subst (λ (m : ℕ). place 8 i < m) (sym e) (place_below 8 i)) t
+pub rows_composed : (a b out : ℕ) (picks rows composed : List ℕ) → picks ≡ to_le_bytes w64 a → rows ≡ to_le_bytes w64 b → out ≡ from_le_bytes w64 composed
+    → length composed ≡ 8 → ((i : ℕ) → i < 8 → IsUnionOfPicked (get_or picks i 0) rows (get_or composed i 0) × (get_or composed i 0 < 256))
+    → pairs out ≡ compose (pairs a) (pairs b)
+unfolding compose
+rows_composed a b out picks rows composed p q r long each =
+    let kept = sym (le_bytes_8 composed out long (small_bytes composed long (λ k h. (each k h).1)) r) in
+    λ t i k.
+    (sym (row_flag out composed kept i k)
+    ∙ (each (place 8 i) (place_below 8 i)).0.flags k
+    ∙ (λ u. some 8 (λ j. row_flag a picks p i j u && row_flag b rows q j k u))) t

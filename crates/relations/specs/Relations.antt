@@ -1,8 +1,7 @@
 -- Relations over eight flags: which pairs of flags are in one, and the semiring that they form.
-use Rattle.std.specs.Prelude.{◌≡◌, ℕ, ◌+◌, ◌*◌, ◌<◌, ◌≤◌, Bool, true, false, ◌&&◌, ◌||◌, ◌==◌, ◌≢◌, refl}
-use Rattle.std.proofs.Common.{sym, ◌∙◌, arith, lit≤}
+use Rattle.std.specs.Prelude.{◌≡◌, ℕ, ◌+◌, ◌*◌, ◌<◌, ◌≤◌, Bool, true, false, ◌&&◌, ◌||◌, ◌==◌, ◌≢◌, List, slice_index}
+use Rattle.std.proofs.Common.{sym, ◌∙◌, arith}
 use Rattle.std.proofs.Math.Bool.{and_assoc, or_assoc, or_comm, or_self, or-false, and-false, and-or_distrib_left, and-or_distrib_right}
-use Rattle.std.proofs.Math.Decide.{dec_lt}
 use Rattle.bits.specs.Bit.{bit}
 use Rattle.bits.specs.Upto.{Upto, place, some, total}
 use Rattle.bits.proofs.Uptos.{some_none, some_or, some_and, and_some, some_swap, some_same, same_some, total_le, total_same}
@@ -41,6 +40,10 @@ absent a = total 8 (λ i. total 8 (λ j. missing (a i j)))
 -- the relation that a number stores: the pair (i, j) is its bit 8 * i + j
 abbrev pub pairs : ℕ → Value
 pairs n = λ i j. bit n (8 * place 8 i + place 8 j)
+
+-- The row is the union of the rows that the picks name. The flags of a row and of picks are their bits.
+pub record IsUnionOfPicked (picks : ℕ) (rows : List ℕ) (row : ℕ) : Type 0 where
+  pub flags : (k : Flag) → bit row (place 8 k) ≡ some 8 (λ j. bit picks (place 8 j) && bit (slice_index rows (place 8 j)) (place 8 k))
 
 -- ---- the laws
 
@@ -81,14 +84,10 @@ unfolding compose
 compose_empty a = λ t i k. ((λ u. some 8 (λ j. and-false (a i j) u)) ∙ some_none 8) t
 
 pub missing_le : (a b : Bool) → missing (a || b) ≤ missing a
-missing_le true b = lit≤ tt
-missing_le false true = lit≤ tt
-missing_le false false = lit≤ tt
+missing_le a b = grind arith
 
 pub missing_same : (a b : Bool) → missing (a || b) ≡ missing a → (a || b) ≡ a
-missing_same true b e = refl
-missing_same false true e = absurd (omega (arith, e))
-missing_same false false e = refl
+missing_same a b e = grind arith
 
 pub row_le : (a b : Value) (i : Flag) → total 8 (λ j. missing (union a b i j)) ≤ total 8 (λ j. missing (a i j))
 row_le a b i = total_le 8 (λ j. missing (union a b i j)) (λ j. missing (a i j)) (λ j. missing_le (a i j) (b i j))
@@ -105,15 +104,9 @@ absent_same a b e = λ t i j.
     (total_same 8 (λ j. missing (union a b i j)) (λ j. missing (a i j)) (λ j. missing_le (a i j) (b i j))
     (total_same 8 (λ i. total 8 (λ j. missing (union a b i j))) (λ i. total 8 (λ j. missing (a i j))) (row_le a b) e i) j) t
 
-pub not_below : (m n : ℕ) → m ≤ n → (m < n → ⊥) → m ≡ n
-not_below m n h l = omega (arith, h, l)
-
 pub absent_falls : (a b : Value) → (union a b ≢ a) → absent (union a b) < absent a
 absent_falls a b ne =
-    elim (dec_lt (absent (union a b)) (absent a)) [
-      | yes h ↦ h
-      | no h ↦ absurd (ne (absent_same a b (not_below (absent (union a b)) (absent a) (absent_le a b) h)))
-    ]
+    let fallen : absent (union a b) ≢ absent a = λ e. ne (absent_same a b e) in omega (arith, absent_le a b)
 
 abbrev pub relations : Semiring
 relations = record {

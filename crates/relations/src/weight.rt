@@ -1,13 +1,12 @@
 //! Relations over eight flags as weights.
 ghost use Rattle.std.specs.Prelude.{◌≡◌, ◌-◌, ◌^◌, ◌<◌, true, false, ◌&&◌, ◌||◌, Decides, ◌==◌, count_ones};
-ghost use Rattle.bits.specs.Bit.{bit};
-ghost use Rattle.bits.specs.Upto.{place, some};
-ghost use Rattle.relations.specs.Relations.{Flag, pairs, relations};
+ghost use Rattle.bits.specs.Upto.{place};
+ghost use Rattle.relations.specs.Relations.{Flag, pairs, relations, IsUnionOfPicked};
 
 use weights::weight::Weight;
 
-// Bit 8 * i + j says that the pair (i, j) is in the relation.
-#[derive(Clone, Copy)]
+// Bit 8 * i + j says that the pair (i, j) is in the relation, so byte i is row i.
+#[derive(Clone, Copy, Debug, PartialEq, Eq)]
 pub struct Relation(pub u64);
 
 impl Relation {
@@ -16,22 +15,21 @@ impl Relation {
         ensures number { result ≡ 64 - count_ones self.0 }
         ensures falling { result ≡ relations.rank (pairs self.0) }
     {
-        64 - self.0.count_ones()
+        self.0.count_zeros()
     }
 }
 
-// The rows of `rows` that the lowest eight bits of `picks` name, united.
-fn united(picks: u64, rows: u64) -> u64
-    ensures small { result < 2 ^ 8 }
-    ensures bits { (k : Flag) → bit result (place 8 k) ≡ some 8 (λ j. bit picks (place 8 j) && pairs rows j k) }
+// The rows that `picks` names, united.
+fn united(picks: u8, rows: [u8; 8]) -> u8
+    ensures { IsUnionOfPicked picks rows result }
 {
-    let mut row: u64 = 0;
-    for j in 0..8u32 {
+    let mut all = 0;
+    for (j, row) in rows.iter().enumerate() {
         if (picks >> j) & 1 == 1 {
-            row |= (rows >> (8 * j)) & 255;
+            all |= row;
         }
     }
-    row
+    all
 }
 
 impl Weight for Relation {
@@ -64,11 +62,9 @@ impl Weight for Relation {
         ensures means { pairs result.0 ≡ relations.extend (pairs self.0) (pairs other.0) }
         ensures way { (i k : Flag) → Decides (pairs result.0 i k) ((j : Flag) × ((pairs self.0 i j ≡ true) × (pairs other.0 j k ≡ true))) }
     {
-        let mut out: u64 = 0;
-        for i in 0..8u32 {
-            out |= united(self.0 >> (8 * i), other.0) << (8 * i);
-        }
-        Relation(out)
+        let rows = other.0.to_le_bytes();
+        let composed = self.0.to_le_bytes().map(|picks| united(picks, rows));
+        Relation(u64::from_le_bytes(composed))
     }
 
     fn same(self, other: Relation) -> bool
@@ -76,6 +72,6 @@ impl Weight for Relation {
         ensures pairwise { Decides result ((i j : Flag) → pairs self.0 i j ≡ pairs other.0 i j) }
         ensures number { Decides result (self.0 ≡ other.0) }
     {
-        self.0 == other.0
+        self == other
     }
 }

@@ -3,6 +3,5 @@ use Rattle.relations.proofs.weight.RelationWeight.combine.Goals as goal
 
 pub returns : goal.returns
 returns c =
-    let a = c.args.self.0 in
-    let b = c.args.other.0 in
-    record { means = λ t i j. pairs_or a b i j t; either = pairs_or a b }
+    let either = pairs_or c.args.self.0 c.args.other.0 in
+    record { means = λ t i j. either i j t; either = either }
