@@ -1,7 +1,8 @@
 -- Calls as entries: how they are written, and what the front of a list of bytes reads as.
 use Rattle.std.specs.Prelude.{ℕ, ◌+◌, ◌*◌, cond, List, [], ◌∷◌, ◌++◌, Some, ◌==◌, slice_index}
+use Rattle.std.specs.Int.{bytes_high_first}
 use Rattle.reading.specs.declared.fault.EntryFault.TheVariants.{Unknown}
-use Rattle.codec.specs.Look.{Look, wide, due, missed, done, and_then, made_of}
+use Rattle.codec.specs.Look.{Look, due, missed, done, and_then, made_of}
 use Rattle.sheets.specs.Sheet.{Sheet}
 use Rattle.sheets.specs.Calls.{calls_of}
 use Rattle.sheets.specs.declared.call.Counts.{Counts}
@@ -12,7 +13,7 @@ use Rattle.sheets.specs.declared.call.Call.TheVariants.{Size, Rule as RuleCall, 
 
 -- the bytes of a call's entries, where `bytes` writes a weight's
 abbrev pub spell : {W : Type 0} → (W → List ℕ) → Call W → List ℕ
-spell bytes (Size c) = 1 ∷ c.controls ∷ (wide 2 c.symbols ++ c.states ∷ [])
+spell bytes (Size c) = 1 ∷ c.controls ∷ (bytes_high_first 2 c.symbols ++ c.states ∷ [])
 spell bytes (RuleCall f w) = 2 ∷ f.from ∷ f.symbol ∷ f.to ∷ f.length ∷ f.first ∷ f.second ∷ bytes w
 spell bytes (ArrowCall a) = 3 ∷ a.from ∷ a.symbol ∷ a.to ∷ []
 spell bytes (Final q) = 4 ∷ q ∷ []

@@ -1,5 +1,5 @@
 -- What reading the front of a list of bytes gives.
-use Rattle.std.specs.Prelude.{ℕ, zero, suc, ◌+◌, ◌/◌, ◌%◌, cond, List, [], ◌∷◌, ◌++◌, length, take, drop, Some, None, Ok, Err, Option, Result, ◌==◌, nat_le}
+use Rattle.std.specs.Prelude.{ℕ, ◌+◌, cond, List, [], ◌∷◌, length, take, drop, Some, None, Ok, Err, Option, Result, ◌==◌, nat_le}
 use Rattle.reading.specs.declared.fault.EntryFault.{EntryFault}
 use Rattle.reading.specs.declared.fault.EntryFault.TheVariants.{Cut, Due, NoValue}
 
@@ -46,8 +46,3 @@ judged f l k (Ok v) = valued l k (f v)
 -- a value made of what was read
 abbrev pub made_of : {V W : Type 0} → (V → Option W) → (List ℕ → Look V) → List ℕ → Look W
 made_of f look l = judged f l (look l) (look l).answer
-
--- a number in n bytes, the high one first
-abbrev pub wide : ℕ → ℕ → List ℕ
-wide zero v = []
-wide (suc n) v = wide n (v / 256) ++ v % 256 ∷ []

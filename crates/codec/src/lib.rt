@@ -2,5 +2,6 @@
 #![tactic(auto)]
 
 pub mod coded;
+pub mod entry;
 pub mod pair;
 pub mod square;

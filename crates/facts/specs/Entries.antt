@@ -1,13 +1,14 @@
 -- Facts as entries.
 use Rattle.std.specs.Prelude.{ℕ, ◌+◌, ◌*◌, cond, ◌&&◌, List, [], ◌∷◌, ◌++◌, Some, None, Option, ◌==◌, slice_index}
-use Rattle.codec.specs.Look.{Look, due, made_of, wide}
+use Rattle.std.specs.Int.{bytes_high_first}
+use Rattle.codec.specs.Look.{Look, due, made_of}
 use Rattle.facts.specs.declared.weight.Facts.{Facts}
 use Rattle.effects.specs.Facts.{disjoint}
 use Rattle.facts.specs.Stored.{nothing, sets, is_known}
 
 -- the bytes behind the kind: a record that breaks the rule has those of none
 abbrev pub body : Facts → List ℕ
-body x = cond (is_known x) (0 ∷ (wide 2 x.made ++ wide 2 x.unmade)) (1 ∷ 0 ∷ 0 ∷ 0 ∷ 0 ∷ [])
+body x = cond (is_known x) (0 ∷ (bytes_high_first 2 x.made ++ bytes_high_first 2 x.unmade)) (1 ∷ 0 ∷ 0 ∷ 0 ∷ 0 ∷ [])
 
 -- none has both sets empty, and no other value has a fact in both
 abbrev pub facts_of : ℕ → ℕ → ℕ → Option Facts

@@ -6,9 +6,9 @@ use Rattle.std.proofs.lemmas.Bool.{cases_Bool, eq-eqb}
 use Rattle.bits.specs.Upto.{place}
 use Rattle.bits.proofs.Bitwise.{bit_mod}
 use Rattle.bits.proofs.Uptos.{place_below}
-use Rattle.codec.specs.Look.{wide}
+use Rattle.std.specs.Int.{bytes_high_first}
 use Rattle.codec.specs.Codes.{Code}
-use Rattle.codec.proofs.Leaves.{Remade, leaf_code, firsts}
+use Rattle.codec.proofs.Leaves.{Remade, leaf_code}
 use Rattle.facts.specs.declared.weight.Facts.{Facts}
 use Rattle.facts.specs.Entries.{body, facts_of, to_facts}
 use Rattle.effects.specs.Facts.{Fact, Value, known_is, effect, effects, disjoint}
@@ -20,7 +20,7 @@ abbrev pub none_body : List ℕ
 none_body = 1 ∷ 0 ∷ 0 ∷ 0 ∷ 0 ∷ []
 
 abbrev pub sets_body : ℕ → ℕ → List ℕ
-sets_body m u = 0 ∷ (wide 2 m ++ wide 2 u)
+sets_body m u = 0 ∷ (bytes_high_first 2 m ++ bytes_high_first 2 u)
 
 pub body_known : (x : Facts) → is_known x ≡ true → body x ≡ sets_body x.made x.unmade
 body_known x e = ap (λ b. cond b (sets_body x.made x.unmade) none_body) e
@@ -64,8 +64,3 @@ length_body x = ⊎_elim (λ e. ap length (body_known x e)) (λ e. ap length (bo
 abbrev pub facts_code : Code Facts Value
 facts_code =
     leaf_code to_facts 18 5 value_of body length_body (λ x. ⊎_elim (remade_known x) (remade_none x) (cases_Bool (is_known x)))
-
-pub written_sets : (x : Facts) (m u : ℕ) (a b : List ℕ) → is_known x ≡ true → m ≡ x.made → u ≡ x.unmade → a ≡ wide 2 m → b ≡ wide 2 u
-    → 18 ∷ 0 ∷ (firsts 0 2 a ++ firsts 0 2 b) ≡ 18 ∷ body x
-written_sets x m u a b e p q s t =
-    (λ i. 18 ∷ 0 ∷ (firsts 0 2 (s i) ++ firsts 0 2 (t i))) ∙ (λ i. 18 ∷ sets_body (p i) (q i)) ∙ ap (λ l. 18 ∷ l) (sym (body_known x e))

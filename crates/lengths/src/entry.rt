@@ -1,18 +1,21 @@
 //! A length's entry: kind 17, and the length in two bytes.
 ghost use Rattle.std.specs.Prelude.{min, ◌∷◌};
-ghost use Rattle.codec.specs.Look.{wide};
+ghost use Rattle.std.specs.Int.{bytes_high_first};
 ghost use Rattle.lengths.specs.Entries.{look_length};
 ghost use Rattle.lengths.specs.Lengths.{longest};
 ghost use Rattle.lengths.specs.EntriesLemmas.{length_code};
 
 use crate::weight::Length;
 use codec::coded::Coded;
+use codec::entry;
 use reading::fault::EntryFault;
 use reading::put::put;
 use reading::reader::Reader;
 
+const KIND: u8 = 17;
+
 impl Coded for Length {
-    ghost bytes = { λ x. 17 ∷ wide 2 (min x.0 longest) };
+    ghost bytes = { λ x. 17 ∷ bytes_high_first 2 (min x.0 longest) };
 
     ghost width = { 3 };
 
@@ -23,15 +26,9 @@ impl Coded for Length {
     ghost back = { length_code.back };
 
     fn read(from: &mut Reader<'_>) -> Result<Length, EntryFault> {
-        match from.rest() {
-            [17, high, low, ..] => {
-                let length = Length(u16::from_be_bytes([*high, *low]));
-                from.pass(3);
-                Ok(length)
-            }
-            [17, ..] => Err(EntryFault::Cut),
-            _ => Err(EntryFault::Due),
-        }
+        let body = entry::body(from, KIND)?;
+        from.pass(3);
+        Ok(Length(u16::from_be_bytes(body)))
     }
 
     fn fits(room: usize) -> Option<usize> {
@@ -40,6 +37,6 @@ impl Coded for Length {
 
     fn write(self, out: &mut [u8], at: usize) -> Option<usize> {
         let [high, low] = self.0.to_be_bytes();
-        put(out, at, &[17, high, low])
+        put(out, at, &[KIND, high, low])
     }
 }

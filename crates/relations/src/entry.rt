@@ -1,17 +1,20 @@
 //! A relation's entry: kind 16, and its 64 bits in eight bytes.
 ghost use Rattle.std.specs.Prelude.{◌∷◌};
-ghost use Rattle.codec.specs.Look.{wide};
+ghost use Rattle.std.specs.Int.{bytes_high_first};
 ghost use Rattle.relations.specs.Entries.{look_relation};
 ghost use Rattle.relations.specs.EntriesLemmas.{relation_code};
 
 use crate::weight::Relation;
 use codec::coded::Coded;
+use codec::entry;
 use reading::fault::EntryFault;
 use reading::put::put;
 use reading::reader::Reader;
 
+const KIND: u8 = 16;
+
 impl Coded for Relation {
-    ghost bytes = { λ x. 16 ∷ wide 8 x.0 };
+    ghost bytes = { λ x. 16 ∷ bytes_high_first 8 x.0 };
 
     ghost width = { 9 };
 
@@ -22,15 +25,9 @@ impl Coded for Relation {
     ghost back = { relation_code.back };
 
     fn read(from: &mut Reader<'_>) -> Result<Relation, EntryFault> {
-        match from.rest() {
-            [16, a, b, c, d, e, f, g, h, ..] => {
-                let relation = Relation(u64::from_be_bytes([*a, *b, *c, *d, *e, *f, *g, *h]));
-                from.pass(9);
-                Ok(relation)
-            }
-            [16, ..] => Err(EntryFault::Cut),
-            _ => Err(EntryFault::Due),
-        }
+        let body = entry::body(from, KIND)?;
+        from.pass(9);
+        Ok(Relation(u64::from_be_bytes(body)))
     }
 
     fn fits(room: usize) -> Option<usize> {
@@ -39,6 +36,6 @@ impl Coded for Relation {
 
     fn write(self, out: &mut [u8], at: usize) -> Option<usize> {
         let [a, b, c, d, e, f, g, h] = self.0.to_be_bytes();
-        put(out, at, &[16, a, b, c, d, e, f, g, h])
+        put(out, at, &[KIND, a, b, c, d, e, f, g, h])
     }
 }

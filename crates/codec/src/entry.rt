@@ -1,0 +1,17 @@
+//! One entry: a byte of kind, then a body whose length the kind fixes.
+ghost use Rattle.std.specs.Prelude.{◌≡◌};
+ghost use Rattle.codec.specs.Look.{due};
+
+use reading::fault::EntryFault;
+use reading::reader::Reader;
+
+// The body of the next entry, which has to be of the kind. The reader stays before the entry, so that it stands
+// there too if the body turns out to be no value.
+pub fn body<const N: usize>(from: &Reader<'_>, kind: u8) -> Result<[u8; N], EntryFault>
+    ensures { result ≡ (due kind N from.now.left).answer }
+{
+    match from.rest() {
+        [k, rest @ ..] if *k == kind => rest.first_chunk().copied().ok_or(EntryFault::Cut),
+        _ => Err(EntryFault::Due),
+    }
+}
