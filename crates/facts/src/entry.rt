@@ -25,7 +25,7 @@ impl Facts {
             [0, a, b, c, d] => {
                 let made = u16::from_be_bytes([a, b]);
                 let unmade = u16::from_be_bytes([c, d]);
-                Known::of(made, unmade).map(Facts::of)
+                Known::of(made, unmade).map(Facts::from)
             }
             _ => None,
         }
