@@ -9,13 +9,13 @@ use Rattle.sheets.specs.declared.call.RuleForm.{RuleForm}
 use Rattle.sheets.specs.declared.call.Call.{Call}
 use Rattle.calls.specs.Spell.{look_entry, to_form, look_weight, look_kind, look_call}
 
--- the rule whose entry l begins with
+-- the form that the body of a rule's entry begins with
 abbrev pub form_of : List ℕ → RuleForm
-form_of l = record { from = get_or l 1 0; symbol = get_or l 2 0; to = get_or l 3 0; length = get_or l 4 0; first = get_or l 5 0; second = get_or l 6 0 }
+form_of b = record { from = get_or b 0 0; symbol = get_or b 1 0; to = get_or b 2 0; length = get_or b 3 0; first = get_or b 4 0; second = get_or b 5 0 }
 
 -- a rule's own entry, then its weight
-pub rule_read : {W : Type 0} (look : List ℕ → Look W) (l : List ℕ) (before mid after : Standing) (r : Result (Call W) EntryFault)
-    → get_or before.left 0 0 ≡ 2 → Read (look_entry to_form 2 6) before mid (Ok (form_of l)) → Read (look_weight look (form_of l)) mid after r → Read (look_call look) before after r
-rule_read look l before mid after r kind p q =
+pub rule_read : {W : Type 0} (look : List ℕ → Look W) (form : RuleForm) (before mid after : Standing) (r : Result (Call W) EntryFault)
+    → get_or before.left 0 0 ≡ 2 → Read (look_entry to_form 2 6) before mid (Ok form) → Read (look_weight look form) mid after r → Read (look_call look) before after r
+rule_read look form before mid after r kind p q =
     subst (λ k. Follows (look_kind look k before.left) before after r) (sym kind)
     (read_then (look_entry to_form 2 6) (look_weight look) before mid after p q)

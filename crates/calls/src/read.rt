@@ -3,6 +3,7 @@ ghost use Rattle.std.specs.Prelude.{◌≡◌, ◌++◌, IfOk};
 ghost use Rattle.codec.specs.Coded.{Read};
 ghost use Rattle.calls.specs.Spell.{look_call, spell};
 
+use crate::kind::Kind;
 use codec::coded::Coded;
 use reading::fault::EntryFault;
 use reading::reader::Reader;
@@ -14,17 +15,21 @@ pub fn read_call<W: Coded>(from: &mut Reader<'_>) -> Result<Call<W>, EntryFault>
     ensures reads { Read (look_call W.Coded.look) from.old from.new result }
     ensures spelled { IfOk result (λ c. from.old.left ≡ spell W.Coded.bytes c ++ from.new.left) }
 {
-    match from.rest() {
-        [1, controls, hi, lo, states, ..] => {
+    let [kind, body @ ..] = from.rest() else {
+        return Err(EntryFault::Unknown);
+    };
+    let kind = Kind::try_from(*kind)?;
+    match (kind, body) {
+        (Kind::Size, [controls, hi, lo, states, ..]) => {
             let counts = Counts {
                 controls: *controls,
                 symbols: u16::from_be_bytes([*hi, *lo]),
                 states: *states,
             };
-            from.pass(5);
+            from.pass(kind.width());
             Ok(Call::Size(counts))
         }
-        [2, p, g, q, length, first, second, ..] => {
+        (Kind::Rule, [p, g, q, length, first, second, ..]) => {
             let form = RuleForm {
                 from: *p,
                 symbol: *g,
@@ -33,25 +38,23 @@ pub fn read_call<W: Coded>(from: &mut Reader<'_>) -> Result<Call<W>, EntryFault>
                 first: *first,
                 second: *second,
             };
-            from.pass(7);
+            from.pass(kind.width());
             let weight = W::read(from)?;
             Ok(Call::Rule(form, weight))
         }
-        [3, p, g, q, ..] => {
+        (Kind::Arrow, [p, g, q, ..]) => {
             let arrow = Arrow {
                 from: *p,
                 symbol: *g,
                 to: *q,
             };
-            from.pass(4);
+            from.pass(kind.width());
             Ok(Call::Arrow(arrow))
         }
-        [4, q, ..] => {
-            let state = *q;
-            from.pass(2);
-            Ok(Call::Final(state))
+        (Kind::Final, [state, ..]) => {
+            from.pass(kind.width());
+            Ok(Call::Final(*state))
         }
-        [1..=4, ..] => Err(EntryFault::Cut),
-        _ => Err(EntryFault::Unknown),
+        _ => Err(EntryFault::Cut),
     }
 }
