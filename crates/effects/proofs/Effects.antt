@@ -1,6 +1,5 @@
 -- What unions, intersections and differences of sets do to each fact.
-use Rattle.std.proofs.Common.{◌≡◌, ℕ, ◌^◌, ◌<◌, Bool, false, not, ◌&&◌, ◌||◌, sym, ap, ◌∙◌, arith}
-use lib.Bits.{bit_and}
+use Rattle.std.proofs.Common.{◌≡◌, ℕ, ◌^◌, ◌<◌, Bool, false, not, ◌&&◌, ◌||◌, bit_and, sym, ap, ◌∙◌, arith}
 use Rattle.std.proofs.lemmas.Nat.{and_le_r, or_lt}
 use Rattle.bits.specs.Bit.{bit}
 use Rattle.bits.specs.Upto.{place}

@@ -1,9 +1,8 @@
 -- The pairs that a number of 64 bits stores.
-use Rattle.std.proofs.Common.{◌≡◌, ℕ, ◌+◌, ◌-◌, ◌*◌, ◌/◌, ◌%◌, ◌^◌, ◌<◌, Bool, true, cond, not, ◌&&◌, ◌||◌, eqb, Decides, sym, refl, ap, ◌∙◌, arith}
-use mathlib.Core.Bool.{and-eq-true_iff, beq}
-use native.Mathlib.Nat.{div-add-mod}
-use lib.Bits.{bit_or}
-use lib.Count.{ones}
+use Rattle.std.proofs.Common.{◌≡◌, ℕ, ◌+◌, ◌-◌, ◌*◌, ◌/◌, ◌%◌, ◌^◌, ◌<◌, Bool, true, cond, not, ◌&&◌, ◌||◌, eqb, bit_or, Decides, sym, refl, ap, ◌∙◌, arith}
+use Rattle.std.specs.Int.Count.{ones}
+use Rattle.std.proofs.Math.Bool.{and-eq-true_iff, beq}
+use Rattle.std.proofs.Math.Nat.{div-add-mod}
 use Rattle.std.proofs.lemmas.Nat.{div_below, mod_below}
 use Rattle.std.specs.Cmp.{booleans_Decides}
 use Rattle.std.proofs.lemmas.Bool.Decides.{Decides-like, Decides-at}
@@ -29,13 +28,16 @@ pairs_same a b p q e =
     ∙ numbered (λ i j. bit a (8 * i + j) ≡ bit b (8 * i + j)) e (k / 8) (k % 8) row (mod_below k 8 (omega arith))
     ∙ ap (bit b) whole)
 
--- numbers are one where their pairs are, and then their relations are
+pub value_same : (a b : ℕ) → a < 2 ^ 64 → b < 2 ^ 64 → pairs a ≡ pairs b → a ≡ b
+value_same a b p q e = pairs_same a b p q (λ i j. ap (λ f. f i j) e)
+
+-- comparing numbers compares their pairs, and the relations that they store
 module _ (r : Bool) (a b : ℕ) (p : a < 2 ^ 64) (q : b < 2 ^ 64) (number : Decides r (a ≡ b)) where
   pub pairwise_decides : Decides r ((i j : Flag) → pairs a i j ≡ pairs b i j)
   pairwise_decides = Decides-like r (λ e i j. ap (λ (n : ℕ). pairs n i j) e) (pairs_same a b p q) number
 
   pub value_decides : Decides r (pairs a ≡ pairs b)
-  value_decides = Decides-like r (λ e t i j. e i j t) (λ e i j. ap (λ f. f i j) e) pairwise_decides
+  value_decides = Decides-like r (ap pairs) (value_same a b p q) number
 
 pub pairs_or : (a b : ℕ) (i j : Flag) → pairs (bit_or a b) i j ≡ (pairs a i j || pairs b i j)
 pairs_or a b i j = bit-or a b (8 * place 8 i + place 8 j)

@@ -1,11 +1,9 @@
 -- Relations by their rows: row i of a relation is byte i of its number.
-use Rattle.std.proofs.Common.{◌≡◌, ℕ, zero, suc, ◌+◌, ◌*◌, ◌/◌, ◌%◌, ◌^◌, ◌<◌, Bool, true, false, ◌&&◌, ◌||◌, List, length, get_or, sym, refl, ap, ◌∙◌, subst, add-zero, add-one, arith, w64}
-use mathlib.Core.Bool.{or-false, or_assoc}
-use lib.Bits.{bit_and, bit_or}
-use denote.Param.Members.{Mut}
-use Rattle.std.specs.Fn.{Called}
+use Rattle.std.proofs.Common.{◌≡◌, ℕ, zero, suc, ◌+◌, ◌*◌, ◌/◌, ◌%◌, ◌^◌, ◌<◌, Bool, true, false, ◌&&◌, ◌||◌, List, length, get_or, bit_and, bit_or, sym, refl, ap, ◌∙◌, subst, add-zero, add-one, arith, w64}
+use Rattle.std.specs.Fn.{Called, Mut}
 use Rattle.std.specs.Array.{MapsFrom, IsMapOf}
 use Rattle.std.specs.Int.{to_le_bytes, from_le_bytes}
+use Rattle.std.proofs.Math.Bool.{or-false, or_assoc}
 use Rattle.std.proofs.lemmas.Grind.{common_steps}
 use Rattle.std.proofs.lemmas.Nat.{and_mask, le_bytes_8}
 use Rattle.std.proofs.lemmas.Bool.{eq-eqb, ne_eqb}

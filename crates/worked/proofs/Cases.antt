@@ -1,10 +1,5 @@
 -- The worked cases.
-use mathlib.Core.Path.{◌≡◌, refl, ap}
-use mathlib.Core.Bool.{Bool}
-use mathlib.Core.List.{List, [], ◌∷◌}
-use mathlib.Core.Logic.{inl, inr}
-use Prim.Native.Nat.{ℕ, zero, suc}
-use native.Mathlib.Omega.{arith}
+use Rattle.std.proofs.Common.{◌≡◌, ℕ, zero, suc, Bool, List, [], ◌∷◌, refl, ap, inl, inr, arith}
 use Rattle.bits.specs.Upto.{Upto}
 use Rattle.relations.specs.Relations.{Flag, relations, compose, absent, pairs}
 use Rattle.lengths.specs.Lengths.{lengths, capped_is}

@@ -1,7 +1,5 @@
 -- The number that is stored, by what it means.
-use mathlib.Core.Path.{◌≡◌, ap, ◌∙◌}
-use Prim.Native.Nat.{ℕ, ◌≤◌, min}
-use native.Mathlib.Omega.{arith}
+use Rattle.std.proofs.Common.{◌≡◌, ℕ, ◌≤◌, min, ap, ◌∙◌, arith}
 use Rattle.lengths.specs.Lengths.{capped, lengths, longest, summed}
 use Rattle.worked.specs.Cases.{shortest_way}
 

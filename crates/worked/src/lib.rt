@@ -4,9 +4,9 @@
 //! stand in for the ones that are called here.
 #![tactic(auto)]
 
-ghost use Rattle.std.specs.Prelude.{true, false, ◌≡◌, min};
+ghost use Rattle.std.specs.Prelude.{true, ◌≡◌, min};
 ghost use Rattle.effects.specs.Facts.{facts};
-ghost use Rattle.facts.specs.Stored.{value_of};
+ghost use Rattle.facts.specs.Stored.{sets, value_of};
 ghost use Rattle.worked.specs.Cases.{shortest_way, WorkedCases};
 
 use facts::weight::Facts;
@@ -58,16 +58,23 @@ const SECOND: Facts = Facts {
     unmade: 1,
 };
 
+// Makes both facts.
+const BOTH: Facts = Facts {
+    none: false,
+    made: 3,
+    unmade: 0,
+};
+
 // The second has the last word on both facts.
 pub fn after() -> Facts
-    ensures { (result.none ≡ false) × (result.made ≡ 2) × (result.unmade ≡ 1) }
+    ensures { result ≡ sets 2 1 }
 {
     FIRST.extend(SECOND)
 }
 
 // One or the other makes each fact, and no fact is unmade by both.
 pub fn either() -> Facts
-    ensures { (result.none ≡ false) × (result.made ≡ 3) × (result.unmade ≡ 0) }
+    ensures { result ≡ sets 3 0 }
 {
     FIRST.combine(SECOND)
 }
@@ -98,17 +105,14 @@ pub fn holds_itself(weight: Pair<Square<Length>, Relation>) -> bool
 }
 
 // The cases hold of the algebras, and the stored answers are theirs.
+#[tactic(auto, using(crate::proofs::Cases::worked))]
 pub fn worked_cases() -> bool
     ensures answer { result ≡ true }
     ensures cases { WorkedCases }
 {
-    let last = after();
-    let any = either();
-    (one_way().0 == 0x08)
-        & (no_way().0 == 0)
-        & (longest().0 == 65_535)
-        & (last.made == 2)
-        & (last.unmade == 1)
-        & (any.made == 3)
-        & (any.unmade == 0)
+    one_way() == Relation(0x08)
+        && no_way() == Relation(0)
+        && longest() == Length(65_535)
+        && after() == SECOND
+        && either() == BOTH
 }

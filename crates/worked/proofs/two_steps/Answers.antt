@@ -1,4 +1,4 @@
-use borrow.Author.Rules.{rules}
+use Rattle.std.proofs.Common.{rules}
 use Rattle.worked.proofs.Numbers.{way_number}
 use Rattle.worked.proofs.two_steps.Goals as goal
 
