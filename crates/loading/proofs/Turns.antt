@@ -8,7 +8,7 @@ use Rattle.codec.specs.Coded.{Read}
 use Rattle.sheets.specs.declared.fault.SheetFault.{SheetFault}
 use Rattle.sheets.specs.declared.call.Call.{Call}
 use Rattle.sheets.specs.Sheet.{Sheet, blank}
-use Rattle.sheets.specs.Questions.{State, at, step, Took}
+use Rattle.sheets.specs.Questions.{State, at, step}
 use Rattle.sheets.specs.Calls.{bound, replay, InOrder}
 use Rattle.faults.specs.declared.Spot.{Spot}
 use Rattle.faults.specs.declared.LoadFault.{LoadFault}
@@ -57,28 +57,6 @@ module _ {W : Type 0} (look : List ℕ → Look W) where
       let place : rd'.place ≡ rd.place + (length rd.left - length k.left) =
       omega (arith, ap (λ s. s.place) p.stands, p.within, ap length p.gone, length-drop k.used rd.left) in
       (λ i. spot_at (count i) (place i))
-
-took_err : {S : Type 0} (to : Result S SheetFault) (before behind : S) (f : SheetFault) → Took {A = Unit {0}} to tt before behind (Err f) → (to ≡ Err f) × (behind ≡ before)
-took_err (Ok t) before behind f p = let a = p.answer in no_fault {t = tt} a
-took_err (Err e) before behind f p = let a = p.answer in (cc, p.state)
-
--- the two faults of the next call
-module _ {W : Type 0} (look : List ℕ → Look W) (rd rd' : Standing) (s : State W) (e : LoadFault) where
-  pub not_read : (f : EntryFault) (p : Spot) → Read (look_call look) rd rd' (Err f) → p ≡ spot_of rd' → e ≡ of_entry p f → Failed look rd s s e
-  not_read f p r there is = record {
-    fault = ap (read_made (spot_of rd) (beyond (spot_of rd) rd.left (look_call look rd.left)) s) (sym r.says)
-        ∙ ap (λ q. Err (of_entry q f)) (sym (stands_beyond look rd rd' (Err f) r) ∙ sym there) ∙ ap Err (sym is);
-    same = refl;
-  }
-
-  pub not_taken : (c : Call W) (t : State W) (f : SheetFault) (p : Spot) → Read (look_call look) rd rd' (Ok c) → Took {A = Unit {0}} (step c s) tt s t (Err f) → p ≡ spot_of rd → e ≡ of_sheet p f → Failed look rd s t e
-  not_taken c t f p r k there is =
-      let q = took_err (step c s) s t f k in
-      record {
-        fault = ap (read_made (spot_of rd) (beyond (spot_of rd) rd.left (look_call look rd.left)) s) (sym r.says)
-            ∙ ap (made_at (spot_of rd)) q.0 ∙ ap (λ q. Err (of_sheet q f)) (sym there) ∙ ap Err (sym is);
-        same = q.1;
-      }
 
 module _ {W : Type 0} where
   on_run : (p : Spot) (ps qs : List (Placed W)) (a : Result ℕ LoadFault) (s t : State W) (r : Result (State W) SheetFault)

@@ -13,12 +13,15 @@ use drafts::draft::Draft;
 use faults::{LoadFault, Spot};
 use reading::reader::Reader;
 
-// Whether there is an entry to load: a load ends with the bytes, or before an entry of kind 5.
+// The kind of the first entry that is a question about the sheet: a load ends before it.
+const QUESTION: u8 = 5;
+
+// Whether there is an entry to load: a load ends with the bytes, or before a question.
 fn more(from: &Reader<'_>) -> bool
     ensures { result ≡ not (ends from.now.left) }
 {
     match from.rest() {
-        [] | [5, ..] => false,
+        [] | [QUESTION, ..] => false,
         _ => true,
     }
 }
@@ -42,15 +45,12 @@ fn load_call<W: Coded>(
 ) -> Result<(), LoadFault>
     ensures { MatchResult result (λ _. Called W.Coded.look W.Coded.bytes from.old from.new (at draft.old strip.old) (at draft.new strip.new)) (Failed W.Coded.look from.old (at draft.old strip.old) (at draft.new strip.new)) }
 {
-    let spot = next_spot(from);
-    let call = match read_call::<W>(from) {
-        Ok(call) => call,
-        Err(fault) => return Err(LoadFault::from((next_spot(from), fault))),
-    };
-    match make(draft, strip, call) {
-        Ok(()) => Ok(()),
-        Err(fault) => Err(LoadFault::from((spot, fault))),
-    }
+    let start = next_spot(from);
+    let read = read_call::<W>(from);
+    let stop = next_spot(from);
+    let call = read.map_err(|fault| (stop, fault))?;
+    make(draft, strip, call).map_err(|fault| (start, fault))?;
+    Ok(())
 }
 
 // Makes the calls that the bytes spell, and says how many bytes that took. A refused load keeps what the entries

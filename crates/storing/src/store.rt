@@ -10,6 +10,7 @@ ghost use Rattle.storing.specs.Left.{calls_left};
 ghost use Rattle.storing.specs.Store.{storing, LoadsAs};
 
 use crate::calls_of::Calls;
+use calls::kind::Kind;
 use codec::coded::Coded;
 use drafts::draft::Draft;
 use faults::StoreFault;
@@ -21,10 +22,10 @@ fn call_fits<W: Coded>(call: Call<W>, room: usize) -> Option<usize>
     ensures { MatchOption result (room < length (spell W.Coded.bytes call)) (λ n. n + length (spell W.Coded.bytes call) ≡ room) }
 {
     match call {
-        Call::Size(_) => room.checked_sub(5),
-        Call::Rule(_, _) => W::fits(room.checked_sub(7)?),
-        Call::Arrow(_) => room.checked_sub(4),
-        Call::Final(_) => room.checked_sub(2),
+        Call::Size(_) => room.checked_sub(Kind::Size.width()),
+        Call::Rule(_, _) => W::fits(room.checked_sub(Kind::Rule.width())?),
+        Call::Arrow(_) => room.checked_sub(Kind::Arrow.width()),
+        Call::Final(_) => room.checked_sub(Kind::Final.width()),
     }
 }
 
@@ -47,14 +48,18 @@ fn write_call<W: Coded>(call: Call<W>, out: &mut [u8], at: usize) -> Option<usiz
     match call {
         Call::Size(counts) => {
             let [high, low] = counts.symbols.to_be_bytes();
-            put(out, at, &[1, counts.controls, high, low, counts.states])
+            put(
+                out,
+                at,
+                &[Kind::Size as u8, counts.controls, high, low, counts.states],
+            )
         }
         Call::Rule(form, weight) => {
             let middle = put(
                 out,
                 at,
                 &[
-                    2,
+                    Kind::Rule as u8,
                     form.from,
                     form.symbol,
                     form.to,
@@ -65,8 +70,12 @@ fn write_call<W: Coded>(call: Call<W>, out: &mut [u8], at: usize) -> Option<usiz
             )?;
             weight.write(out, middle)
         }
-        Call::Arrow(arrow) => put(out, at, &[3, arrow.from, arrow.symbol, arrow.to]),
-        Call::Final(state) => put(out, at, &[4, state]),
+        Call::Arrow(arrow) => put(
+            out,
+            at,
+            &[Kind::Arrow as u8, arrow.from, arrow.symbol, arrow.to],
+        ),
+        Call::Final(state) => put(out, at, &[Kind::Final as u8, state]),
     }
 }
 
