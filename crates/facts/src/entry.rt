@@ -37,7 +37,7 @@ impl Coded for Facts {
                     return Err(EntryFault::NoValue);
                 };
                 from.pass(6);
-                Ok(Facts::of(known))
+                Ok(Facts::from(known))
             }
             [18, _, _, _, _, _, ..] => Err(EntryFault::NoValue),
             [18, ..] => Err(EntryFault::Cut),

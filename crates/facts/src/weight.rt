@@ -41,13 +41,6 @@ impl From<Known> for Facts {
 }
 
 impl Facts {
-    // The record that stores the value.
-    pub(crate) fn of(known: Known) -> Facts
-        ensures { result ≡ sets known.made known.unmade }
-    {
-        known.into()
-    }
-
     // The known value, unless the record means none.
     pub(crate) fn known(self) -> Option<Known>
         ensures { MatchOption result (is_known self ≡ false) (λ k. (is_known self ≡ true) × (k.made ≡ self.made) × (k.unmade ≡ self.unmade)) }

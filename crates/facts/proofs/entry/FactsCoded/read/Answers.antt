@@ -26,7 +26,7 @@ returns-in-Some c =
     let after = c.pass-in-18-2.new.self in
     let b = c.pass-in-18-2.result in
     let passes = c.pass-in-18-2.ensures in
-    let x = c.of-in-18-2.result in
+    let x = c.from.result in
     let m = c.from_be_bytes-made.result in
     let u = c.from_be_bytes-unmade.result in
     let h = c.in-Some.ensures in
@@ -36,7 +36,7 @@ returns-in-Some c =
     let kind : get_or l 0 0 ≡ 18 = search rules in
     let flag : get_or l 1 0 ≡ 0 = search rules in
     let small : (k : ℕ) → get_or l k 0 < 256 = search rules in
-    let is : sets m u ≡ x = sym (c.of-in-18-2.ensures ∙ (λ i. sets (h.1 i) (h.2 i))) in
+    let is : sets m u ≡ x = sym (c.from.ensures ∙ (λ i. sets (h.1 i) (h.2 i))) in
     record {
       reads = reads_facts before after l c.rest.ensures long kind b passes x (read_sets l flag m u made unmade h.0 ∙ ap Some is);
       spelled = spells_facts before after l c.rest.ensures long kind b passes x (spell_sets l flag m u made unmade h.0 small ∙ ap body is);
