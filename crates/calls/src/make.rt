@@ -11,10 +11,7 @@ pub fn make<W: Copy>(draft: &mut Draft, strip: &mut [W], call: Call<W>) -> Resul
 {
     match call {
         Call::Size(counts) => draft.size(counts),
-        Call::Rule(form, weight) => {
-            draft.rule(strip, form, weight)?;
-            Ok(())
-        }
+        Call::Rule(form, weight) => draft.rule(strip, form, weight).map(|_| ()),
         Call::Arrow(arrow) => draft.arrow(arrow),
         Call::Final(state) => draft.mark_final(state),
     }
