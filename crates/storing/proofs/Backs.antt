@@ -222,9 +222,9 @@ module _ {W V : Type 0} (k : Code W V) (s : Sheet) (ws : List W) where
   abbrev pub LoadsBack : List ℕ → ℕ → Type 0
   LoadsBack out n = (t : List W) → length s.rules ≤ length t → LoadsAs k.meaning n (loading k.look (take n out) (at blank t)) (at s (laid (take (length s.rules) ws) t))
 
-  pub loads_back : Fits s → length s.rules ≤ length ws → (before out : List ℕ) (n : ℕ) → Written 0 (length bs) bs before out n → LoadsBack out n
+  pub loads_back : Fits s → length s.rules ≤ length ws → (before out : List ℕ) (n : ℕ) → Written (length bs) bs before out n → LoadsBack out n
   loads_back f enough before out n w t room =
-      let count : n ≡ length bs = omega (arith, w.next) in
-      let front : take n out ≡ bs = ap (take n) w.put ∙ take_at bs (drop (0 + length bs) before) n (sym count) in
+      let count : n ≡ length bs = omega (arith, w.count) in
+      let front : take n out ≡ bs = ap (take n) w.put ∙ take_at bs (drop (length bs) before) n (sym count) in
       let r = loads_as k (calls_of s ws) (at blank t) (at s (laid (take (length s.rules) ws) t)) (small_calls s ws f) (replays s ws t f enough room) in
       rw (front, count) r

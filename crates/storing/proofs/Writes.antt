@@ -1,26 +1,18 @@
--- How a call is written.
-use Rattle.std.proofs.Common.{◌≡◌, ℕ, ◌+◌, ◌≤◌, List, [], ◌∷◌, ◌++◌, length, Some, None, Option, sym, refl, ap, subst, arith, MatchOption}
-use Rattle.reading.specs.Splice.{Written, Wrote}
-use Rattle.reading.proofs.Puts.{then_wrote}
-use Rattle.sheets.specs.declared.call.RuleForm.{RuleForm}
-use Rattle.sheets.specs.declared.call.Call.{Call}
-use Rattle.sheets.specs.declared.call.Call.TheVariants.{Rule as RuleCall}
-use Rattle.calls.specs.Spell.{spell}
+-- How calls are written, one behind the other.
+use Rattle.std.proofs.Common.{◌≡◌, ℕ, ◌+◌, ◌-◌, ◌≤◌, List, [], ◌++◌, length, take, drop, sym, ap, ◌∙◌, append_assoc, append-nil, arith, length-append, length-drop, length-take-le}
+use Rattle.std.proofs.lemmas.List.{take_at, drop_at, drop-drop, drop_all, take_rest}
+use borrow.Rule.Slice.PartMut.{put_mid}
+use Rattle.reading.specs.Splice.{splice, Written}
 
--- what has room is written
-roomy : (at n : ℕ) (bs out next : List ℕ) (r : Option ℕ) → at + n ≤ length out → Wrote at n bs out next r → MatchOption r ⊥ (Written at n bs out next)
-roomy at n bs out next None h w = omega (arith, w.short)
-roomy at n bs out next (Some end) h w = w
-
--- a rule's entry, and those of its weight behind it
-pub rule_written : {W : Type 0} (bytes : W → List ℕ) (call : Call W) (f : RuleForm) (x : W) (at width mid : ℕ) (out out1 out2 : List ℕ) (r : Option ℕ)
-    → call ≡ RuleCall f x → length (bytes x) ≡ width → at + length (spell bytes call) ≤ length out
-    → Written at 7 (2 ∷ f.from ∷ f.symbol ∷ f.to ∷ f.length ∷ f.first ∷ f.second ∷ []) out out1 mid → Wrote mid width (bytes x) out1 out2 r
-    → MatchOption r ⊥ (Written at (length (spell bytes call)) (spell bytes call) out out2)
-rule_written bytes call f x at width mid out out1 out2 r e wide h one two =
-    let a = 2 ∷ f.from ∷ f.symbol ∷ f.to ∷ f.length ∷ f.first ∷ f.second ∷ [] in
-    let long : 7 + width ≡ length (spell bytes (RuleCall f x)) = omega (arith, wide) in
-    let room : at + (7 + width) ≤ length out = omega (arith, h, long, ap (λ c. length (spell bytes c)) e) in
-    let P : Call _ → Type 0 = λ c. MatchOption r ⊥ (Written at (length (spell bytes c)) (spell bytes c) out out2) in
-    let Q : ℕ → Type 0 = λ n. MatchOption r ⊥ (Written at n (spell bytes (RuleCall f x)) out out2) in
-    subst P (sym e) (subst Q long (roomy at (7 + width) (a ++ bytes x) out out2 r room (then_wrote at 7 width mid a out out1 one refl (bytes x) out2 r room two)))
+-- some bytes from `at` on, and more behind them: all of them from `at` on
+pub written_on : (at r : ℕ) (b more out rest : List ℕ) → at ≤ length out → Written (length b) b (take (length out - at) (drop at out)) rest r
+    → take (at + r) (put_mid at (length out - at) out rest) ++ splice more (drop (at + r) (put_mid at (length out - at) out rest)) ≡ take at out ++ splice (b ++ more) (drop at out)
+written_on at r b more out rest h w =
+    let behind : take (length out - at) (drop at out) ≡ drop at out = take_rest out at in
+    let none : drop (length out - at) (drop at out) ≡ [] = drop_all (length out - at) (drop at out) (omega (arith, length-drop at out)) in
+    let tail : List ℕ = drop (length b) (drop at out) in
+    let whole : put_mid at (length out - at) out rest ≡ (take at out ++ b) ++ tail = rw (none, append-nil, w.put, behind, append_assoc) in
+    let front : length (take at out ++ b) ≡ at + r = length-append (take at out) b ∙ omega (arith, w.count, length-take-le at out h) in
+    let first : take (at + r) (put_mid at (length out - at) out rest) ≡ take at out ++ b = ap (take (at + r)) whole ∙ take_at (take at out ++ b) tail (at + r) front in
+    let last : drop (at + r) (put_mid at (length out - at) out rest) ≡ tail = ap (drop (at + r)) whole ∙ drop_at (take at out ++ b) tail (at + r) front in
+    rw (first, last, append_assoc, length-append, drop-drop) (ap (λ l. take at out ++ l) (sym (append_assoc b more _)))

@@ -18,7 +18,7 @@ refused e out = record { answer = Err e; buffer = out }
 
 -- the bytes bs at the front of a buffer, if they have room in it
 abbrev pub put_in : List ℕ → List ℕ → Stored
-put_in bs out = cond (nat_le (length bs) (length out)) (record { answer = Ok (length bs); buffer = splice 0 bs out }) (refused NoRoom out)
+put_in bs out = cond (nat_le (length bs) (length out)) (record { answer = Ok (length bs); buffer = splice bs out }) (refused NoRoom out)
 
 -- a strip cell for each rule? room for all the bytes?
 abbrev pub storing : {W : Type 0} → (W → List ℕ) → Sheet → List W → List ℕ → Stored

@@ -12,9 +12,9 @@ ghost use Rattle.storing.specs.Store.{storing, LoadsAs};
 use crate::calls_of::Calls;
 use calls::kind::Kind;
 use codec::coded::Coded;
+use codec::entry;
 use drafts::draft::Draft;
 use faults::StoreFault;
-use reading::put::put;
 use sheets::call::Call;
 
 // What is left of a room after a call's entries, if they fit in it.
@@ -40,53 +40,46 @@ fn all_fit<W: Coded>(calls: Calls<'_, W>, room: usize) -> Option<usize>
     Some(rest)
 }
 
-// Writes the entries of a call, which have room, over the bytes from `at` on, and says where they end.
-fn write_call<W: Coded>(call: Call<W>, out: &mut [u8], at: usize) -> Option<usize>
-    requires { at + length (spell W.Coded.bytes call) ≤ length out.old }
-    ensures { MatchOption result ⊥ (Written at (length (spell W.Coded.bytes call)) (spell W.Coded.bytes call) out.old out.new) }
+// Writes the entries of a call, which have room, to the front of the buffer, and says how many bytes they are.
+fn write_call<W: Coded>(call: Call<W>, out: &mut [u8]) -> Option<usize>
+    requires { length (spell W.Coded.bytes call) ≤ length out.old }
+    ensures { MatchOption result ⊥ (Written (length (spell W.Coded.bytes call)) (spell W.Coded.bytes call) out.old out.new) }
 {
     match call {
         Call::Size(counts) => {
             let [high, low] = counts.symbols.to_be_bytes();
-            put(
-                out,
-                at,
-                &[Kind::Size as u8, counts.controls, high, low, counts.states],
-            )
+            let body = [counts.controls, high, low, counts.states];
+            entry::write(out, Kind::Size as u8, &body)
         }
         Call::Rule(form, weight) => {
-            let middle = put(
-                out,
-                at,
-                &[
-                    Kind::Rule as u8,
-                    form.from,
-                    form.symbol,
-                    form.to,
-                    form.length,
-                    form.first,
-                    form.second,
-                ],
-            )?;
-            weight.write(out, middle)
+            let body = [
+                form.from,
+                form.symbol,
+                form.to,
+                form.length,
+                form.first,
+                form.second,
+            ];
+            let head = entry::write(out, Kind::Rule as u8, &body)?;
+            let tail = weight.write(&mut out[head..])?;
+            Some(head + tail)
         }
-        Call::Arrow(arrow) => put(
-            out,
-            at,
-            &[Kind::Arrow as u8, arrow.from, arrow.symbol, arrow.to],
-        ),
-        Call::Final(state) => put(out, at, &[Kind::Final as u8, state]),
+        Call::Arrow(arrow) => {
+            let body = [arrow.from, arrow.symbol, arrow.to];
+            entry::write(out, Kind::Arrow as u8, &body)
+        }
+        Call::Final(state) => entry::write(out, Kind::Final as u8, &[state]),
     }
 }
 
-// Writes the entries of all calls, which have room, and says where they end.
+// Writes the entries of all calls, which have room, to the front of the buffer, and says how many bytes they are.
 fn write_all<W: Coded>(calls: Calls<'_, W>, out: &mut [u8]) -> Option<usize>
     requires { length (spells W.Coded.bytes (calls_left calls)) ≤ length out.old }
-    ensures { let bytes = spells W.Coded.bytes (calls_left calls.entry) in MatchOption result ⊥ (Written 0 (length bytes) bytes out.old out.new) }
+    ensures { let bytes = spells W.Coded.bytes (calls_left calls.entry) in MatchOption result ⊥ (Written (length bytes) bytes out.old out.new) }
 {
     let mut at = 0;
     for call in calls {
-        at = write_call(call, out, at)?;
+        at += write_call(call, &mut out[at..])?;
     }
     Some(at)
 }

@@ -13,5 +13,5 @@ returns-clause-back g c =
     let out = c.args.out.now in
     let next = c.write_all.new.out in
     let enough : length s.rules ≤ length ws = search rules in
-    let written : IfOk c.ok_or-3.result (Written 0 (length (bs k s ws)) (bs k s ws) out next) = search rules in
-    IfOk-weaker c.ok_or-3.result (Written 0 (length (bs k s ws)) (bs k s ws) out next) (LoadsBack k s ws next) (loads_back k s ws c.of.ensures.fits enough out next) written
+    let written : IfOk c.ok_or-3.result (Written (length (bs k s ws)) (bs k s ws) out next) = search rules in
+    IfOk-weaker c.ok_or-3.result (Written (length (bs k s ws)) (bs k s ws) out next) (LoadsBack k s ws next) (loads_back k s ws c.of.ensures.fits enough out next) written

@@ -1,7 +1,7 @@
 use Rattle.std.proofs.Common.{arith}
 use Rattle.std.proofs.lemmas.Grind.{common_steps}
-use Rattle.reading.proofs.Puts.{splice_more}
+use Rattle.storing.proofs.Writes.{written_on}
 use Rattle.storing.proofs.store.write_all.Goals as goal
 
 pub loop-call-preserved : goal.loop-call-preserved
-loop-call-preserved g c = grind (arith, common_steps, splice_more)
+loop-call-preserved g c = grind (arith, common_steps, written_on)

@@ -1,4 +1,4 @@
-use Rattle.std.proofs.Common.{◌≡◌, ◌+◌, length}
+use Rattle.std.proofs.Common.{◌≡◌, ◌+◌, ◌++◌, length, take, drop}
 use Rattle.reading.specs.Splice.{splice}
 use Rattle.calls.specs.Spell.{spells}
 use Rattle.storing.specs.Left.{calls_left}
@@ -10,4 +10,4 @@ invariant-loop-call g l =
     (goal.iterator-loop-call g).can_next l.call-iterator
     × (goal.iterator-loop-call g).is_finite l.call-iterator
     × (l.at + length (spells g.W.Coded.bytes (calls_left l.call-iterator)) ≡ length (spells g.W.Coded.bytes (calls_left l.fn.calls)))
-    × (splice l.at (spells g.W.Coded.bytes (calls_left l.call-iterator)) l.out ≡ splice 0 (spells g.W.Coded.bytes (calls_left l.fn.calls)) l.initial.out)
+    × (take l.at l.out ++ splice (spells g.W.Coded.bytes (calls_left l.call-iterator)) (drop l.at l.out) ≡ splice (spells g.W.Coded.bytes (calls_left l.fn.calls)) l.initial.out)
