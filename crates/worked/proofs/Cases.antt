@@ -39,13 +39,13 @@ unfolding absent
 ways_differ e = omega (arith, ap absent e)
 
 pub worked : WorkedCases
-worked = (
-  one_way,
-  no_way,
-  ways_differ,
-  capped_is _ _ refl,
-  λ e. omega (arith, ap lengths.rank e),
-  effects_are _ _ refl,
-  effects_are _ _ refl,
-  λ e. omega (arith, ap facts.rank e),
-)
+worked = record {
+  one_way = one_way;
+  no_way = no_way;
+  ways_differ = ways_differ;
+  past_longest = capped_is _ _ refl;
+  lengths_differ = λ e. omega (arith, ap lengths.rank e);
+  last_word = effects_are _ _ refl;
+  either = effects_are _ _ refl;
+  facts_differ = λ e. omega (arith, ap facts.rank e);
+}
