@@ -5,7 +5,8 @@ use drafts::draft::Draft;
 use sheets::call::Call;
 use sheets::fault::SheetFault;
 
-// Makes a call on a draft.
+// Makes a call on a draft. A match and no table of functions: the call is a value that was read, and each case has
+// arguments of its own.
 pub fn make<W: Copy>(draft: &mut Draft, strip: &mut [W], call: Call<W>) -> Result<(), SheetFault>
     ensures { Took (step call (at draft.old strip.old)) tt (at draft.old strip.old) (at draft.new strip.new) result }
 {

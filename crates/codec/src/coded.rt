@@ -24,7 +24,8 @@ pub trait Coded: Weight {
         ensures reads { Read look from.old from.new result }
         ensures spelled { IfOk result (λ w. from.old.left ≡ bytes w ++ from.new.left) };
 
-    // What is left of a room after a weight's entries, if they fit in it.
+    // What is left of a room after a weight's entries, if they fit in it. A kind of one entry takes its own width off; no
+    // constant of the trait could stand here, since a pile of layers may be wider than any number of the machine.
     fn fits(room: usize) -> Option<usize>
         ensures { MatchOption result (room < width) (λ n. n + width ≡ room) };
 

@@ -2,6 +2,7 @@
 use Rattle.std.proofs.Common.{◌≡◌, ℕ, zero, suc, ◌+◌, ◌-◌, ◌<◌, ◌≤◌, Bool, true, false, not, List, [], ◌∷◌, ◌++◌, map, length, get_or, take, drop, set, replicate, Some, None, Ok, Err, Option, Result, refl, ap, ◌∙◌, arith, length-set}
 use Rattle.std.proofs.lemmas.Grind.{common_steps}
 use Rattle.std.proofs.lemmas.List.{get_or_at, set_at}
+use Rattle.std.specs.List.{list_all}
 use Rattle.sheets.specs.declared.call.Counts.{Counts}
 use Rattle.sheets.specs.declared.call.Right.{Right}
 use Rattle.sheets.specs.declared.call.Right.TheVariants.{Pop, Swap, Push}
@@ -11,10 +12,10 @@ use Rattle.sheets.specs.declared.call.Arrow.{Arrow}
 use Rattle.sheets.specs.declared.call.Call.{Call}
 use Rattle.sheets.specs.declared.call.Call.TheVariants.{Rule as RuleCall, Arrow as ArrowCall, Final}
 use Rattle.sheets.specs.declared.fault.SheetFault.{SheetFault}
-use Rattle.sheets.specs.Sheet.{Sheet, Fits, blank, states, every, counts_fit, right_of, rule_fits, arrow_fits, new_after}
+use Rattle.sheets.specs.Sheet.{Sheet, Fits, blank, states, counts_fit, right_of, rule_fits, arrow_fits, new_after}
 use Rattle.sheets.specs.Questions.{State, at, step, shaped_step, rule_from}
 use Rattle.sheets.specs.Calls.{bound, replay, right_length, right_first, right_second, form_of, marked, size_calls, rule_calls, listed, calls_of, Rising, InOrder, laid}
-use Rattle.drafts.proofs.Fits.{every_drop}
+use Rattle.drafts.proofs.Fits.{list_all-drop}
 
 -- the sheet with these parts
 abbrev sheet_with : Option Counts → List Rule → List Arrow → List Bool → Sheet
@@ -39,7 +40,7 @@ form_back f (Swap a) e = grind (arith, common_steps)
 form_back f (Push a b) e = grind (arith, common_steps)
 
 -- a flag that is set has a number below those from which on none is
-flag_below : (n q : ℕ) (fs : List Bool) → every not (drop n fs) ≡ true → get_or fs q false ≡ true → q < n
+flag_below : (n q : ℕ) (fs : List Bool) → list_all not (drop n fs) ≡ true → get_or fs q false ≡ true → q < n
 flag_below n q [] h e = grind (arith, common_steps)
 flag_below zero zero (b ∷ fs) h e = grind (arith, common_steps)
 flag_below zero (suc q) (b ∷ fs) h e = grind (arith, common_steps, flag_below zero q fs)
@@ -47,12 +48,12 @@ flag_below (suc n) zero (b ∷ fs) h e = omega arith
 flag_below (suc n) (suc q) (b ∷ fs) h e = omega (arith, flag_below n q fs h e)
 
 -- marking a flag past all that are set
-marked_none : (k : ℕ) (fs : List Bool) → every not fs ≡ true → marked k fs ≡ []
+marked_none : (k : ℕ) (fs : List Bool) → list_all not fs ≡ true → marked k fs ≡ []
 marked_none k [] h = refl
 marked_none k (true ∷ fs) h = grind (arith, common_steps)
 marked_none k (false ∷ fs) h = marked_none (k + 1) fs h
 
-marked_set : (k n q : ℕ) (fs : List Bool) → every not (drop n fs) ≡ true → n ≤ q → q < length fs → marked k (set fs q true) ≡ marked k fs ++ (k + q) ∷ []
+marked_set : (k n q : ℕ) (fs : List Bool) → list_all not (drop n fs) ≡ true → n ≤ q → q < length fs → marked k (set fs q true) ≡ marked k fs ++ (k + q) ∷ []
 marked_set k n q [] h le lt = absurd (omega arith)
 marked_set k (suc n) zero (b ∷ fs) h le lt = absurd (omega arith)
 marked_set k zero q (true ∷ fs) h le lt = grind (arith, common_steps)
@@ -73,7 +74,7 @@ module _ {W : Type 0} where
   sized_taken (Some c) t rest h = grind (arith, common_steps)
 
   rules_taken : (c : Option Counts) (fs : List Bool) (done rs : List Rule) (ws t : List W) (rest : List (Call W))
-      → every (rule_fits c) rs ≡ true → length done + length rs ≤ 512 → length rs ≤ length ws → length done + length rs ≤ length t
+      → list_all (rule_fits c) rs ≡ true → length done + length rs ≤ 512 → length rs ≤ length ws → length done + length rs ≤ length t
       → replay (rule_calls (map form_of rs) ws ++ rest) (at (sheet_with c done [] fs) t)
       ≡ replay rest (at (sheet_with c (done ++ rs) [] fs) (over (length done) (take (length rs) ws) t))
   rules_taken c fs done [] ws t rest h few enough room = grind (arith, common_steps)
@@ -82,12 +83,12 @@ module _ {W : Type 0} where
       grind (arith, common_steps, right_back r.right, rules_taken c fs (done ++ r ∷ []) rs ws (set t (length done) w) rest, over_more (length done) w (take (length rs) ws) t)
 
   arrows_taken : (c : Option Counts) (rs : List Rule) (fs : List Bool) (t : List W) (done ms : List Arrow) (rest : List (Call W))
-      → every (arrow_fits c) ms ≡ true → new_after done ms ≡ true → length done + length ms ≤ 128
+      → list_all (arrow_fits c) ms ≡ true → new_after done ms ≡ true → length done + length ms ≤ 128
       → replay (map ArrowCall ms ++ rest) (at (sheet_with c rs done fs) t) ≡ replay rest (at (sheet_with c rs (done ++ ms) fs) t)
   arrows_taken c rs fs t done [] rest h new few = grind (arith, common_steps)
   arrows_taken c rs fs t done (a ∷ ms) rest h new few = grind (arith, common_steps, arrows_taken c rs fs t (done ++ a ∷ []) ms rest)
 
-  finals_taken : (c : Option Counts) (rs : List Rule) (ms : List Arrow) (t : List W) (n : ℕ) (before fs : List Bool) → length before ≡ n → every not (drop (states c) (before ++ fs)) ≡ true
+  finals_taken : (c : Option Counts) (rs : List Rule) (ms : List Arrow) (t : List W) (n : ℕ) (before fs : List Bool) → length before ≡ n → list_all not (drop (states c) (before ++ fs)) ≡ true
       → replay (map Final (marked n fs)) (at (sheet_with c rs ms (before ++ replicate (length fs) false)) t) ≡ Ok (at (sheet_with c rs ms (before ++ fs)) t)
   finals_taken c rs ms t n before [] e h = refl
   finals_taken c rs ms t n before (true ∷ fs) e h =
@@ -136,12 +137,12 @@ module _ {W : Type 0} where
   arrows_led c rs fs t done (a ∷ ms) rest u e = grind (arith, common_steps, arrows_led c rs fs t (done ++ a ∷ []) ms rest u)
 
   finals_led : (c : Option Counts) (rs : List Rule) (ms : List Arrow) (t : List W) (n : ℕ) (qs : List ℕ) (fs : List Bool) (u : State W)
-      → Rising n qs → states c ≤ length fs → every not (drop n fs) ≡ true → replay (map Final qs) (at (sheet_with c rs ms fs) t) ≡ Ok u
+      → Rising n qs → states c ≤ length fs → list_all not (drop n fs) ≡ true → replay (map Final qs) (at (sheet_with c rs ms fs) t) ≡ Ok u
       → (gs : List Bool) × (marked 0 gs ≡ marked 0 fs ++ qs) × (u ≡ at (sheet_with c rs ms gs) t)
   finals_led c rs ms t n [] fs u up room none e = (fs, grind (arith, common_steps), cc)
   finals_led c rs ms t n (q ∷ qs) fs u up room none e =
       let below : q < states c = grind (arith, common_steps) in
-      let i = finals_led c rs ms t (q + 1) qs (set fs q true) u up.1 (omega (arith, length-set fs q true)) (grind (arith, common_steps, every_drop not (q - n) (drop n fs))) (grind (arith, common_steps)) in
+      let i = finals_led c rs ms t (q + 1) qs (set fs q true) u up.1 (omega (arith, length-set fs q true)) (grind (arith, common_steps, list_all-drop not (q - n) (drop n fs))) (grind (arith, common_steps)) in
       (i.0, grind (arith, common_steps, marked_set 0 n q fs), i.2)
 
   rules_front : (fs : List RuleForm) (ws more : List W) → length fs ≡ length ws → rule_calls fs (ws ++ more) ≡ rule_calls fs ws

@@ -23,7 +23,8 @@ pub struct Draft {
     counts: Option<Counts>,
     rules: Vec<Rule>,
     arrows: Vec<Arrow>,
-    // A flag for each state number that there can be: whether it is marked as final.
+    // A flag for each state number that there can be: whether it is marked as final. In place, and not a set on the
+    // heap: only making a draft may want memory.
     finals: [bool; MOST_STATES as usize],
 }
 
@@ -110,7 +111,8 @@ impl Draft {
         Ok(())
     }
 
-    // One rule more; its number is the answer, and its weight goes to the strip's cell of that number.
+    // One rule more; its number is the answer, and its weight goes to the strip's cell of that number. Weights do not
+    // lie beside their rules: the strip is lent memory, and how long it is is one of the questions.
     pub fn rule<W: Copy>(
         &mut self,
         strip: &mut [W],

@@ -13,7 +13,7 @@ pub struct Known {
 }
 
 impl Known {
-    // The value with these sets, or `None` where a fact is in both.
+    // The value with these sets, or `None` where a fact is in both: there is no more to tell of it than that.
     pub fn of(made: u16, unmade: u16) -> Option<Known>
         ensures { MatchOption result (disjoint made unmade ≡ false) (λ k. (disjoint made unmade ≡ true) × (k.made ≡ made) × (k.unmade ≡ unmade)) }
     {

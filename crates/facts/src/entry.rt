@@ -14,6 +14,9 @@ use weights::weight::Weight;
 
 const KIND: u8 = 18;
 
+// The bytes of an entry.
+const WIDTH: usize = 6;
+
 impl Facts {
     // The value that a body's bytes spell: none has both sets empty, and no other value has a fact in both.
     fn from_body(bytes: [u8; 5]) -> Option<Facts>
@@ -56,12 +59,12 @@ impl Coded for Facts {
 
     fn read(from: &mut Reader<'_>) -> Result<Facts, EntryFault> {
         let facts = Facts::from_body(entry::body(from, KIND)?).ok_or(EntryFault::NoValue)?;
-        from.pass(6);
+        from.pass(WIDTH);
         Ok(facts)
     }
 
     fn fits(room: usize) -> Option<usize> {
-        room.checked_sub(6)
+        room.checked_sub(WIDTH)
     }
 
     fn write(self, out: &mut [u8]) -> Option<usize> {

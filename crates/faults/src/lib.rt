@@ -108,6 +108,8 @@ impl fmt::Display for LoadFault {
     }
 }
 
+impl Error for LoadFault {}
+
 // Why a store is refused, each case by its number.
 #[derive(Clone, Copy, Debug, Drop, PartialEq, Eq)]
 pub enum StoreFault {

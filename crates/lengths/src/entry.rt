@@ -13,6 +13,9 @@ use reading::reader::Reader;
 
 const KIND: u8 = 17;
 
+// The bytes of an entry.
+const WIDTH: usize = 3;
+
 impl Coded for Length {
     ghost bytes = { λ x. 17 ∷ bytes_high_first 2 (min x.0 longest) };
 
@@ -26,12 +29,12 @@ impl Coded for Length {
 
     fn read(from: &mut Reader<'_>) -> Result<Length, EntryFault> {
         let body = entry::body(from, KIND)?;
-        from.pass(3);
+        from.pass(WIDTH);
         Ok(Length(u16::from_be_bytes(body)))
     }
 
     fn fits(room: usize) -> Option<usize> {
-        room.checked_sub(3)
+        room.checked_sub(WIDTH)
     }
 
     fn write(self, out: &mut [u8]) -> Option<usize> {

@@ -65,6 +65,6 @@ impl<A: Weight, B: Weight> Weight for Pair<A, B> {
         ensures means { Decides result (⟦<Self as Weight>⟧.meaning self ≡ ⟦<Self as Weight>⟧.meaning other) }
         ensures parts { Decides result ((A.meaning self.first ≡ A.meaning other.first) × (B.meaning self.second ≡ B.meaning other.second)) }
     {
-        self.first.same(other.first) & self.second.same(other.second)
+        self.first.same(other.first) && self.second.same(other.second)
     }
 }

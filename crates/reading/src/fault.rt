@@ -2,15 +2,15 @@
 ghost use Rattle.std.specs.Prelude.{◌≡◌};
 ghost use Rattle.reading.specs.Faults.{fault_number};
 
+use std::error::Error;
+use std::fmt;
+
+// Each fault by its number. What is wrong stands in its words, below.
 #[derive(Clone, Copy, Debug, Drop, PartialEq, Eq)]
 pub enum EntryFault {
-    // No kind that is known here.
     Unknown = 22,
-    // The body is cut short.
     Cut = 23,
-    // The kind of entry that is due is not there.
     Due = 24,
-    // The body is no value of the kind.
     NoValue = 25,
 }
 
@@ -21,3 +21,16 @@ impl EntryFault {
         self as u8
     }
 }
+
+impl fmt::Display for EntryFault {
+    fn fmt<W: fmt::Write>(&self, f: &mut fmt::Formatter<W>) -> fmt::Result {
+        f.write_str(match self {
+            EntryFault::Unknown => "no kind of entry that is known here",
+            EntryFault::Cut => "the body of the entry is cut short",
+            EntryFault::Due => "the kind of entry that is due is not there",
+            EntryFault::NoValue => "the body is no value of the kind",
+        })
+    }
+}
+
+impl Error for EntryFault {}

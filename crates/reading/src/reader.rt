@@ -6,6 +6,7 @@ use std::marker::Model;
 
 // `at` is where the next entry begins, and `passed` is how many entries stand before it. Each of those has
 // two bytes at least, so their count is well within a `usize`.
+// The whole input with a place in it, and not what is left alone: the rule for readers here is a position in the input.
 #[derive(Drop)]
 pub struct Reader<'a> {
     input: &'a [u8],
@@ -57,7 +58,7 @@ impl<'a> Reader<'a> {
     }
 
     // Goes past an entry of n bytes, its kind among them. It stays where it is if n bytes are no entry or
-    // are not left.
+    // are not left. A yes or a no says all: a reader has no fault to tell, and its caller has the bytes.
     pub fn pass(&mut self, n: usize) -> bool
         ensures { Passes n self.old self.new result }
     {

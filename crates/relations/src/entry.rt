@@ -12,6 +12,9 @@ use reading::reader::Reader;
 
 const KIND: u8 = 16;
 
+// The bytes of an entry.
+const WIDTH: usize = 9;
+
 impl Coded for Relation {
     ghost bytes = { λ x. 16 ∷ bytes_high_first 8 x.0 };
 
@@ -25,12 +28,12 @@ impl Coded for Relation {
 
     fn read(from: &mut Reader<'_>) -> Result<Relation, EntryFault> {
         let body = entry::body(from, KIND)?;
-        from.pass(9);
+        from.pass(WIDTH);
         Ok(Relation(u64::from_be_bytes(body)))
     }
 
     fn fits(room: usize) -> Option<usize> {
-        room.checked_sub(9)
+        room.checked_sub(WIDTH)
     }
 
     fn write(self, out: &mut [u8]) -> Option<usize> {

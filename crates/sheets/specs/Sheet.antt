@@ -1,6 +1,6 @@
 -- What a sheet holds, and what may stand in it.
 use Rattle.std.specs.Prelude.{◌≡◌, ℕ, ◌≤◌, Bool, true, false, cond, not, ◌&&◌, ltb, List, [], ◌∷◌, ◌++◌, length, drop, replicate, Some, None, Option, ◌==◌, nat_le, nat_lt}
-use Rattle.std.specs.List.{list_any}
+use Rattle.std.specs.List.{list_all, list_any}
 use Rattle.sheets.specs.declared.call.Counts.{Counts}
 use Rattle.sheets.specs.declared.call.Right.{Right}
 use Rattle.sheets.specs.declared.call.Right.TheVariants.{Pop, Swap, Push}
@@ -29,10 +29,6 @@ symbols (Some c) = c.symbols
 abbrev pub states : Option Counts → ℕ
 states None = 0
 states (Some c) = c.states
-
-abbrev pub every : {A : Type 0} → (A → Bool) → List A → Bool
-every f [] = true
-every f (x ∷ xs) = f x && every f xs
 
 -- the counts are within their limits
 abbrev pub few_controls : Counts → Bool
@@ -66,7 +62,7 @@ abbrev pub rule_controls : Option Counts → ℕ → ℕ → Bool
 rule_controls c p q = nat_lt p (controls c) && nat_lt q (controls c)
 
 abbrev pub rule_symbols : Option Counts → ℕ → Right → Bool
-rule_symbols c g r = nat_lt g (symbols c) && every (λ a. ltb a (symbols c)) (symbols_of r)
+rule_symbols c g r = nat_lt g (symbols c) && list_all (λ a. ltb a (symbols c)) (symbols_of r)
 
 abbrev pub rule_fits : Option Counts → Rule → Bool
 rule_fits c r = rule_controls c r.from r.to && rule_symbols c r.symbol r.right
@@ -92,10 +88,10 @@ new_after before (a ∷ more) = not (has before a) && new_after (before ++ a ∷
 -- a sheet whose parts have passed their questions
 pub record Fits (s : Sheet) : Type 0 where
   pub limits : counts_fit s.counts ≡ true
-  pub rules_fit : every (rule_fits s.counts) s.rules ≡ true
+  pub rules_fit : list_all (rule_fits s.counts) s.rules ≡ true
   pub rules_few : length s.rules ≤ 512
-  pub arrows_fit : every (arrow_fits s.counts) s.arrows ≡ true
+  pub arrows_fit : list_all (arrow_fits s.counts) s.arrows ≡ true
   pub arrows_new : new_after [] s.arrows ≡ true
   pub arrows_few : length s.arrows ≤ 128
   pub finals_all : length s.finals ≡ 32
-  pub finals_fit : every not (drop (states s.counts) s.finals) ≡ true
+  pub finals_fit : list_all not (drop (states s.counts) s.finals) ≡ true

@@ -1,7 +1,8 @@
 //! The parts of a sheet, and the calls that add them.
 ghost use Rattle.std.specs.Prelude.{◌≡◌, ◌&&◌, ltb, nat_lt, ok_or, option_map};
+ghost use Rattle.std.specs.List.{list_all};
 ghost use Rattle.sheets.specs.declared.fault.SheetFault.TheVariants.{RightSide};
-ghost use Rattle.sheets.specs.Sheet.{has, right_of, every, symbols_of};
+ghost use Rattle.sheets.specs.Sheet.{has, right_of, symbols_of};
 ghost use Rattle.sheets.specs.Questions.{rule_from};
 ghost use Rattle.sheets.specs.Calls.{form_of};
 
@@ -119,7 +120,7 @@ impl From<Rule> for RuleForm {
 impl Rule {
     // Whether the symbols of the rule are all among the first so many.
     pub fn symbols_below(self, count: u16) -> bool
-        ensures { result ≡ (nat_lt self.symbol count && every (λ a. ltb a count) (symbols_of self.right)) }
+        ensures { result ≡ (nat_lt self.symbol count && list_all (λ a. ltb a count) (symbols_of self.right)) }
     {
         let below = |a: u8| u16::from(a) < count;
         below(self.symbol)

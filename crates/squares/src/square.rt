@@ -4,7 +4,7 @@ ghost use Rattle.squares.specs.Squares.{square, quad, dot};
 
 use weights::weight::Weight;
 
-// The part at row i and column j is `wij`.
+// The part at row i and column j is `wij`. Parts by name, and not by index: contracts speak of each part.
 // No `PartialEq`: squares that are stored otherwise may mean one value, and `same` says so.
 #[derive(Debug, Clone, Copy)]
 pub struct Square<W> {
@@ -94,8 +94,8 @@ impl<W: Weight> Weight for Square<W> {
         ensures parts { Decides result ((W.meaning self.w00 ≡ W.meaning other.w00) × (W.meaning self.w01 ≡ W.meaning other.w01) × (W.meaning self.w10 ≡ W.meaning other.w10) × (W.meaning self.w11 ≡ W.meaning other.w11)) }
     {
         self.w00.same(other.w00)
-            & self.w01.same(other.w01)
-            & self.w10.same(other.w10)
-            & self.w11.same(other.w11)
+            && self.w01.same(other.w01)
+            && self.w10.same(other.w10)
+            && self.w11.same(other.w11)
     }
 }

@@ -17,7 +17,8 @@ use drafts::draft::Draft;
 use faults::StoreFault;
 use sheets::call::Call;
 
-// What is left of a room after a call's entries, if they fit in it.
+// What is left of a room after a call's entries, if they fit in it. A match, here and where a call is written: each
+// case has bytes of its own.
 fn call_fits<W: Coded>(call: Call<W>, room: usize) -> Option<usize>
     ensures { MatchOption result (room < length (spell W.Coded.bytes call)) (λ n. n + length (spell W.Coded.bytes call) ≡ room) }
 {

@@ -38,7 +38,8 @@ impl<T: Copy, const N: usize> Table<T, N> {
         &self.cells[..self.count]
     }
 
-    // One item more at the end, if there is room for it; whether there was.
+    // One item more at the end, if there is room for it; whether there was. A yes or a no says all: the item is a
+    // copy, so a `Result` would have nothing to hand back.
     pub fn push(&mut self, item: T) -> bool
         ensures says { result ≡ nat_lt (length self.old) N }
         ensures holds { self.new ≡ with_last N self.old item }
