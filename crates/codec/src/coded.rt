@@ -28,11 +28,11 @@ pub trait Coded: Weight {
     fn fits(room: usize) -> Option<usize>
         ensures { MatchOption result (room < width) (λ n. n + width ≡ room) };
 
-    // Writes the entries over the bytes from `at` on, and says where they end. It writes nothing if they have
-    // no room.
-    fn write(self, out: &mut [u8], at: usize) -> Option<usize>
-        ensures wrote { Wrote at width (bytes self) out.old out.new result }
-        ensures back { ReadsBack look Self.Weight.meaning (Self.Weight.meaning self) at out.new result };
+    // Writes the entries to the front of the buffer, and says how many bytes they are. It writes nothing if they
+    // have no room.
+    fn write(self, out: &mut [u8]) -> Option<usize>
+        ensures wrote { Wrote width (bytes self) out.old out.new result }
+        ensures back { ReadsBack look Self.Weight.meaning (Self.Weight.meaning self) out.new result };
 
     ghost wide: { (x : Self) → length (bytes x) ≡ width };
 

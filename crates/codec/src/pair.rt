@@ -33,9 +33,10 @@ impl<A: Coded, B: Coded> Coded for Pair<A, B> {
     }
 
     // There is room for both before the first is written.
-    fn write(self, out: &mut [u8], at: usize) -> Option<usize> {
-        Self::fits(out.len().checked_sub(at)?)?;
-        let middle = self.first.write(out, at)?;
-        self.second.write(out, middle)
+    fn write(self, out: &mut [u8]) -> Option<usize> {
+        Self::fits(out.len())?;
+        let first = self.first.write(out)?;
+        let second = self.second.write(&mut out[first..])?;
+        Some(first + second)
     }
 }

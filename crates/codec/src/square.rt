@@ -33,11 +33,12 @@ impl<W: Coded> Coded for Square<W> {
     }
 
     // There is room for all before the first is written.
-    fn write(self, out: &mut [u8], at: usize) -> Option<usize> {
-        Self::fits(out.len().checked_sub(at)?)?;
-        let second = self.w00.write(out, at)?;
-        let third = self.w01.write(out, second)?;
-        let fourth = self.w10.write(out, third)?;
-        self.w11.write(out, fourth)
+    fn write(self, out: &mut [u8]) -> Option<usize> {
+        Self::fits(out.len())?;
+        let mut n = self.w00.write(out)?;
+        n += self.w01.write(&mut out[n..])?;
+        n += self.w10.write(&mut out[n..])?;
+        n += self.w11.write(&mut out[n..])?;
+        Some(n)
     }
 }

@@ -9,7 +9,6 @@ use codec::coded::Coded;
 use codec::entry;
 use effects::known::Known;
 use reading::fault::EntryFault;
-use reading::put::put;
 use reading::reader::Reader;
 use weights::weight::Weight;
 
@@ -29,6 +28,18 @@ impl Facts {
             }
             _ => None,
         }
+    }
+
+    // The bytes of the body. A record that breaks the rule has those of the value that it means, none.
+    fn to_body(self) -> [u8; 5]
+        ensures { result ≡ body self }
+    {
+        let Some(known) = self.known() else {
+            return [1, 0, 0, 0, 0];
+        };
+        let [made_high, made_low] = known.made().to_be_bytes();
+        let [unmade_high, unmade_low] = known.unmade().to_be_bytes();
+        [0, made_high, made_low, unmade_high, unmade_low]
     }
 }
 
@@ -53,13 +64,7 @@ impl Coded for Facts {
         room.checked_sub(6)
     }
 
-    // A record that breaks the rule is written as the value that it means, none.
-    fn write(self, out: &mut [u8], at: usize) -> Option<usize> {
-        let Some(known) = self.known() else {
-            return put(out, at, &[KIND, 1, 0, 0, 0, 0]);
-        };
-        let [a, b] = known.made().to_be_bytes();
-        let [c, d] = known.unmade().to_be_bytes();
-        put(out, at, &[KIND, 0, a, b, c, d])
+    fn write(self, out: &mut [u8]) -> Option<usize> {
+        entry::write(out, KIND, &self.to_body())
     }
 }

@@ -9,7 +9,6 @@ use crate::weight::Length;
 use codec::coded::Coded;
 use codec::entry;
 use reading::fault::EntryFault;
-use reading::put::put;
 use reading::reader::Reader;
 
 const KIND: u8 = 17;
@@ -35,8 +34,7 @@ impl Coded for Length {
         room.checked_sub(3)
     }
 
-    fn write(self, out: &mut [u8], at: usize) -> Option<usize> {
-        let [high, low] = self.0.to_be_bytes();
-        put(out, at, &[KIND, high, low])
+    fn write(self, out: &mut [u8]) -> Option<usize> {
+        entry::write(out, KIND, &self.0.to_be_bytes())
     }
 }

@@ -2,14 +2,13 @@
 ghost use Rattle.std.specs.Prelude.{length};
 ghost use Rattle.reading.specs.Splice.{Wrote};
 
-// Writes the bytes over those from `at` on, and says where they end. It writes nothing if they have no room.
-pub fn put(out: &mut [u8], at: usize, bytes: &[u8]) -> Option<usize>
-    ensures { Wrote at (length bytes.now) bytes.now out.old out.new result }
+// Writes the bytes to the front of the buffer, and says how many they are. It writes nothing if they have no room.
+pub fn put(out: &mut [u8], bytes: &[u8]) -> Option<usize>
+    ensures { Wrote (length bytes.now) bytes.now out.old out.new result }
 {
-    let end = at.checked_add(bytes.len())?;
-    if out.len() < end {
+    if out.len() < bytes.len() {
         return None;
     }
-    out[at..end].copy_from_slice(bytes);
-    Some(end)
+    out[..bytes.len()].copy_from_slice(bytes);
+    Some(bytes.len())
 }

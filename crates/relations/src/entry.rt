@@ -8,7 +8,6 @@ use crate::weight::Relation;
 use codec::coded::Coded;
 use codec::entry;
 use reading::fault::EntryFault;
-use reading::put::put;
 use reading::reader::Reader;
 
 const KIND: u8 = 16;
@@ -34,8 +33,7 @@ impl Coded for Relation {
         room.checked_sub(9)
     }
 
-    fn write(self, out: &mut [u8], at: usize) -> Option<usize> {
-        let [a, b, c, d, e, f, g, h] = self.0.to_be_bytes();
-        put(out, at, &[KIND, a, b, c, d, e, f, g, h])
+    fn write(self, out: &mut [u8]) -> Option<usize> {
+        entry::write(out, KIND, &self.0.to_be_bytes())
     }
 }
