@@ -9,6 +9,8 @@ use reading::fault::EntryFault;
 use reading::reader::Reader;
 use sheets::call::{Arrow, Call, Counts, RuleForm};
 
+// Slice patterns take kind and body apart, as the rule for entries is here; they name each byte of the body once.
+//
 // A fault leaves the reader before the entry that is at fault, which can be one of the weight's. A call that
 // was read spells as its very bytes.
 pub fn read_call<W: Coded>(from: &mut Reader<'_>) -> Result<Call<W>, EntryFault>

@@ -1,10 +1,14 @@
 -- What it is to read a weight, and what the layers read.
-use Rattle.std.specs.Prelude.{◌≡◌, ℕ, ◌+◌, ◌≤◌, List, length, drop, IfSome, Ok, Option, Result}
+use Rattle.std.specs.Prelude.{◌≡◌, ℕ, ◌+◌, ◌<◌, ◌≤◌, List, length, drop, IfSome, MatchOption, Ok, Option, Result}
 use Rattle.pairs.specs.declared.pair.Pair.{Pair}
 use Rattle.squares.specs.declared.square.Square.{Square}
 use Rattle.reading.specs.declared.fault.EntryFault.{EntryFault}
 use Rattle.codec.specs.Look.{Look, done, and_then}
 use Rattle.reading.specs.Standing.{Standing}
+
+-- r is what a width leaves of a room, if it fits in it
+abbrev pub RoomLeft : ℕ → ℕ → Option ℕ → Type 0
+RoomLeft width room r = MatchOption r (room < width) (λ rest. rest + width ≡ room)
 
 -- where a reader stands that stood at r and read what k says
 abbrev pub behind : {W : Type 0} → Standing → Look W → Standing

@@ -1,6 +1,6 @@
 //! The interface of weights that are read and written as entries.
 ghost use Rattle.std.specs.Prelude.{◌≡◌, ℕ, ◌+◌, ◌<◌, List, ◌++◌, length, IfOk, MatchOption};
-ghost use Rattle.codec.specs.Coded.{Read, ReadsAs, ReadsBack};
+ghost use Rattle.codec.specs.Coded.{Read, ReadsAs, ReadsBack, RoomLeft};
 ghost use Rattle.codec.specs.Look.{Look};
 ghost use Rattle.reading.specs.Splice.{Wrote};
 
@@ -27,7 +27,7 @@ pub trait Coded: Weight {
     // What is left of a room after a weight's entries, if they fit in it. A kind of one entry takes its own width off; no
     // constant of the trait could stand here, since a pile of layers may be wider than any number of the machine.
     fn fits(room: usize) -> Option<usize>
-        ensures { MatchOption result (room < width) (λ n. n + width ≡ room) };
+        ensures { RoomLeft width room result };
 
     // Writes the entries to the front of the buffer, and says how many bytes they are. It writes nothing if they
     // have no room.

@@ -7,6 +7,9 @@ use reading::fault::EntryFault;
 use reading::put::put;
 use reading::reader::Reader;
 
+// Each kind makes its value of the body, and passes the entry, by itself: a maker that was handed in as a closure would
+// be known by its `post` alone, and the looks that contracts name are functions.
+//
 // The body of the next entry, which has to be of the kind. The reader stays before the entry, so that it stands
 // there too if the body turns out to be no value.
 pub fn body<const N: usize>(from: &Reader<'_>, kind: u8) -> Result<[u8; N], EntryFault>

@@ -12,12 +12,15 @@ use reading::fault::EntryFault;
 use reading::reader::Reader;
 use weights::weight::Weight;
 
+// A constant and no case of an enum: kinds of weight are open, and builders bring their own.
 const KIND: u8 = 18;
 
 // The bytes of an entry.
 const WIDTH: usize = 6;
 
 impl Facts {
+    // Methods, and not `TryFrom` and `From`, which would make the bytes of a body a part of what the type offers.
+    //
     // The value that a body's bytes spell: none has both sets empty, and no other value has a fact in both.
     fn from_body(bytes: [u8; 5]) -> Option<Facts>
         ensures { result ≡ to_facts bytes }

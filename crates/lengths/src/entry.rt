@@ -11,6 +11,7 @@ use codec::entry;
 use reading::fault::EntryFault;
 use reading::reader::Reader;
 
+// A constant and no case of an enum: kinds of weight are open, and builders bring their own.
 const KIND: u8 = 17;
 
 // The bytes of an entry.

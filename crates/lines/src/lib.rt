@@ -1,4 +1,4 @@
-//! The lines of a report, each with its end.
+//! The lines of what a run answers, each with its end.
 #![tactic(auto)]
 
 use lengths::weight::Length;
@@ -17,6 +17,7 @@ fn sheet<W: fmt::Write>(loaded: &Loaded<Length>, f: &mut fmt::Formatter<W>) -> f
     for arrow in loaded.draft.arrows() {
         writeln!(f, "arrow {arrow}")?;
     }
+    // Flags into states once more: storing has an iterator for it, which is private there and asks for a proof.
     for (state, marked) in loaded.draft.finals().iter().enumerate() {
         if *marked {
             writeln!(f, "final {state}")?;

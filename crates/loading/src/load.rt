@@ -13,7 +13,8 @@ use drafts::draft::Draft;
 use faults::{LoadFault, Spot};
 use reading::reader::Reader;
 
-// The kind of the first entry that is a question about the sheet: a load ends before it.
+// The kind of the first entry that is a question about the sheet: a load ends before it. It spells no call, so it is no
+// case of their kinds.
 const QUESTION: u8 = 5;
 
 // Whether there is an entry to load: a load ends with the bytes, or before a question.

@@ -6,7 +6,7 @@ use faults::LoadFault;
 use std::error::Error;
 use std::fmt;
 
-#[derive(Clone, Copy, Debug)]
+#[derive(Clone, Copy, Debug, PartialEq, Eq)]
 pub enum Refusal {
     // The input has more bytes than a run takes.
     TooLong,

@@ -1,5 +1,5 @@
 //! Goes over the input from entry to entry.
-ghost use Rattle.std.specs.Prelude.{◌≡◌, ◌+◌};
+ghost use Rattle.std.specs.Prelude.{◌≡◌, ◌+◌, ◌≤◌};
 ghost use Rattle.reading.specs.Standing.{start, Passes};
 
 use std::marker::Model;
@@ -45,7 +45,8 @@ impl<'a> Reader<'a> {
 
     // The number of the next entry, counted from 1.
     pub fn number(&self) -> usize
-        ensures { result ≡ self.now.passed + 1 }
+        ensures number { result ≡ self.now.passed + 1 }
+        ensures few { self.now.passed + self.now.passed ≤ self.now.place }
     {
         self.passed + 1
     }

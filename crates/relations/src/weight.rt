@@ -23,7 +23,7 @@ impl Relation {
 fn united(picks: u8, rows: [u8; 8]) -> u8
     ensures { IsUnionOfPicked picks rows result }
 {
-    // A loop, since the closures of a chain do not know that `j` is below 8.
+    // A loop: a chain was tried, and its closures do not know that `j` is below 8.
     let mut all = 0;
     for (j, row) in rows.iter().enumerate() {
         if (picks >> j) & 1 == 1 {

@@ -1,6 +1,7 @@
 //! Storing a draft as bytes.
 ghost use Rattle.std.specs.Prelude.{◌≡◌, ◌+◌, ◌<◌, ◌≤◌, List, length, take, IfOk, MatchOption};
 ghost use Rattle.reading.specs.Splice.{Written};
+ghost use Rattle.codec.specs.Coded.{RoomLeft};
 ghost use Rattle.sheets.specs.Sheet.{blank};
 ghost use Rattle.sheets.specs.Questions.{at};
 ghost use Rattle.sheets.specs.Calls.{laid};
@@ -18,9 +19,9 @@ use faults::StoreFault;
 use sheets::call::Call;
 
 // What is left of a room after a call's entries, if they fit in it. A match, here and where a call is written: each
-// case has bytes of its own.
+// case has its own width and bytes, and a rule has its weight behind them.
 fn call_fits<W: Coded>(call: Call<W>, room: usize) -> Option<usize>
-    ensures { MatchOption result (room < length (spell W.Coded.bytes call)) (λ n. n + length (spell W.Coded.bytes call) ≡ room) }
+    ensures { RoomLeft (length (spell W.Coded.bytes call)) room result }
 {
     match call {
         Call::Size(_) => room.checked_sub(Kind::Size.width()),
@@ -32,7 +33,7 @@ fn call_fits<W: Coded>(call: Call<W>, room: usize) -> Option<usize>
 
 // What is left of a room after the entries of all calls, if they fit in it.
 fn all_fit<W: Coded>(calls: Calls<'_, W>, room: usize) -> Option<usize>
-    ensures { let bytes = spells W.Coded.bytes (calls_left calls.entry) in MatchOption result (room < length bytes) (λ n. n + length bytes ≡ room) }
+    ensures { RoomLeft (length (spells W.Coded.bytes (calls_left calls.entry))) room result }
 {
     let mut rest = room;
     for call in calls {
@@ -41,7 +42,8 @@ fn all_fit<W: Coded>(calls: Calls<'_, W>, room: usize) -> Option<usize>
     Some(rest)
 }
 
-// Writes the entries of a call, which have room, to the front of the buffer, and says how many bytes they are.
+// Writes the entries of a call, which have room, to the front of the buffer, and says how many bytes they are. An
+// option, though it is never `None`: what writes an entry answers an option, and `?` hands it on.
 fn write_call<W: Coded>(call: Call<W>, out: &mut [u8]) -> Option<usize>
     requires { length (spell W.Coded.bytes call) ≤ length out.old }
     ensures { MatchOption result ⊥ (Written (length (spell W.Coded.bytes call)) (spell W.Coded.bytes call) out.old out.new) }
@@ -87,7 +89,7 @@ fn write_all<W: Coded>(calls: Calls<'_, W>, out: &mut [u8]) -> Option<usize>
 
 // Writes the entries of the calls that make the draft's sheet to the front of the buffer, and says how many bytes
 // they are. A refused store writes nothing, so it asks for all the room before it writes. What was stored loads as
-// itself into a new draft whose strip has a cell for each rule.
+// itself into a new draft whose strip has a cell for each rule. The strip comes beside the draft, since it is lent.
 pub fn store<W: Coded>(draft: &Draft, strip: &[W], out: &mut [u8]) -> Result<usize, StoreFault>
     ensures answer { result ≡ (storing W.Coded.bytes draft.now strip.now out.old).answer }
     ensures buffer { out.new ≡ (storing W.Coded.bytes draft.now strip.now out.old).buffer }
