@@ -33,9 +33,9 @@ impl Iterator for Finals<'_> {
 }
 
 // The calls that are left: the size if it is set, the rules with their weights, the arrows, the finals. They are
-// `Copy`, since a store goes over them twice. A struct of its own, and not a chain of the library's iterators: that was
-// tried, and the proof did not close, since the contract of `Zip` does not say what is left once it has ended; nor has a
-// chain with closures a type that a function could name.
+// `Copy`, since a store goes over them twice. A struct of its own, and not a chain of the library's iterators, which is no
+// plainer: with its closures it has no type that a function could name, so it would stand twice, and the contract of `Zip`
+// does not say what is left once it has ended.
 #[derive(Clone, Copy)]
 pub(crate) struct Calls<'a, W> {
     size: Option<Counts>,
