@@ -66,6 +66,7 @@ impl Coded for Facts {
         Ok(facts)
     }
 
+    // One line for each kind of one entry: why it is no default stands at the trait.
     fn fits(room: usize) -> Option<usize> {
         room.checked_sub(WIDTH)
     }

@@ -34,6 +34,7 @@ impl Coded for Length {
         Ok(Length(u16::from_be_bytes(body)))
     }
 
+    // One line for each kind of one entry: why it is no default stands at the trait.
     fn fits(room: usize) -> Option<usize> {
         room.checked_sub(WIDTH)
     }
