@@ -56,6 +56,7 @@ fn load_call<W: Coded>(
 
 // Makes the calls that the bytes spell, and says how many bytes that took. A refused load keeps what the entries
 // before the refusal added. Bytes in stored order that load whole into a new draft are stored again byte for byte.
+// The strip comes beside the draft, since it is lent.
 pub fn load<W: Coded>(draft: &mut Draft, strip: &mut [W], bytes: &[u8]) -> Result<usize, LoadFault>
     ensures state { at draft.new strip.new ≡ (loading W.Coded.look bytes.now (at draft.old strip.old)).state }
     ensures answer { result ≡ (loading W.Coded.look bytes.now (at draft.old strip.old)).answer }
