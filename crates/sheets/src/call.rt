@@ -117,6 +117,28 @@ impl From<Rule> for RuleForm {
     }
 }
 
+impl RuleForm {
+    // The right side that the form spells; `try_from` also says why there is none.
+    pub fn right(self) -> Option<Right>
+        ensures { result ≡ right_of self.length self.first self.second }
+    {
+        Right::try_from(self).ok()
+    }
+
+    // Whether the symbols of the form, with this right side, are all among the first so many.
+    pub fn symbols_below(self, right: Right, count: u16) -> bool
+        ensures { result ≡ (nat_lt self.symbol count && list_all (λ a. ltb a count) (symbols_of right)) }
+    {
+        let rule = Rule {
+            from: self.from,
+            symbol: self.symbol,
+            to: self.to,
+            right,
+        };
+        rule.symbols_below(count)
+    }
+}
+
 impl Rule {
     // Whether the symbols of the rule are all among the first so many.
     pub fn symbols_below(self, count: u16) -> bool
