@@ -56,7 +56,8 @@ impl Draft {
 
     // The counts, once they are set.
     pub fn sized(&self) -> Option<Counts>
-        ensures { result ≡ self.now.counts }
+        ensures counts { result ≡ self.now.counts }
+        ensures fits { Fits self.now }
     {
         self.counts
     }
@@ -66,6 +67,7 @@ impl Draft {
         ensures controls { result.controls ≡ controls self.now.counts }
         ensures symbols { result.symbols ≡ symbols self.now.counts }
         ensures states { result.states ≡ states self.now.counts }
+        ensures fits { Fits self.now }
     {
         self.counts.unwrap_or_default()
     }
@@ -80,20 +82,23 @@ impl Draft {
 
     // The arrows in the order in which they came.
     pub fn arrows(&self) -> &[Arrow]
-        ensures { result.now ≡ self.now.arrows }
+        ensures arrows { result.now ≡ self.now.arrows }
+        ensures fits { Fits self.now }
     {
         &self.arrows
     }
 
     // A flag for each state number that there can be: whether it is marked as final.
     pub fn finals(&self) -> &[bool]
-        ensures { result.now ≡ self.now.finals }
+        ensures finals { result.now ≡ self.now.finals }
+        ensures fits { Fits self.now }
     {
         &self.finals
     }
 
     pub fn size(&mut self, counts: Counts) -> Result<(), SheetFault>
-        ensures { Took (size_step self.old counts) tt self.old self.new result }
+        ensures took { Took (size_step self.old counts) tt self.old self.new result }
+        ensures fits { Fits self.new }
     {
         if self.counts.is_some() {
             return Err(SheetFault::Sized);
@@ -119,10 +124,11 @@ impl Draft {
         form: RuleForm,
         weight: W,
     ) -> Result<u16, SheetFault>
-        ensures { Took (rule_step (at self.old strip.old) form weight) (length self.old.rules) (at self.old strip.old) (at self.new strip.new) result }
+        ensures took { Took (rule_step (at self.old strip.old) form weight) (length self.old.rules) (at self.old strip.old) (at self.new strip.new) result }
+        ensures fits { Fits self.new }
     {
-        let rule = Rule::try_from(form)?;
         let counts = self.counts();
+        let rule = Rule::try_from(form)?;
         if rule.from >= counts.controls || rule.to >= counts.controls {
             return Err(SheetFault::NoControl);
         }
@@ -134,12 +140,13 @@ impl Draft {
             return Err(SheetFault::NoRuleRoom);
         }
         strip[number] = weight;
-        self.rules.push(rule).unwrap();
+        self.rules.push_reserved(rule);
         Ok(number as u16)
     }
 
     pub fn arrow(&mut self, arrow: Arrow) -> Result<(), SheetFault>
-        ensures { Took (arrow_step self.old arrow) tt self.old self.new result }
+        ensures took { Took (arrow_step self.old arrow) tt self.old self.new result }
+        ensures fits { Fits self.new }
     {
         let counts = self.counts();
         if arrow.from >= counts.states || arrow.to >= counts.states {
@@ -157,13 +164,14 @@ impl Draft {
         if self.arrows.len() >= MOST_ARROWS {
             return Err(SheetFault::NoArrowRoom);
         }
-        self.arrows.push(arrow).unwrap();
+        self.arrows.push_reserved(arrow);
         Ok(())
     }
 
     // Marks a state as final.
     pub fn mark_final(&mut self, state: u8) -> Result<(), SheetFault>
-        ensures { Took (final_step self.old state) tt self.old self.new result }
+        ensures took { Took (final_step self.old state) tt self.old self.new result }
+        ensures fits { Fits self.new }
     {
         let counts = self.counts();
         if state >= counts.states {

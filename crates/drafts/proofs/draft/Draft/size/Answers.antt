@@ -10,3 +10,6 @@ invariant_of-self c = record {
   rules_room = c.self.invariant.rules_room;
   arrows_room = c.self.invariant.arrows_room;
 }
+
+pub returns-clause-fits : goal.returns-clause-fits
+returns-clause-fits c = fits_with_counts (sheet_of c.self.inside) c.args.counts c.self.invariant.fits (grind (arith, common_steps)) (grind (arith, common_steps))
