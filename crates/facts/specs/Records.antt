@@ -1,15 +1,18 @@
 -- What stored records mean.
-use Rattle.std.specs.Prelude.{◌≡◌, ℕ, ◌^◌, ◌<◌, Bool, true, false, ◌&&◌}
-use Rattle.std.proofs.Common.{sym, ◌∙◌, ap, arith}
+use Rattle.std.specs.Prelude.{◌≡◌, ℕ, ◌^◌, ◌<◌, Bool, true, false, ◌&&◌, ◌⊎◌, Decides, ◌==◌, ◌≢◌, refl}
+use Rattle.std.specs.Bool.{beq}
+use Rattle.std.specs.Cmp.{booleans_Decides}
+use Rattle.std.proofs.Common.{sym, ◌∙◌, ap, arith, inl, inr}
+use Rattle.std.proofs.lemmas.Bool.Decides.{Decides-like, Decides-and, Decides-eqb}
 use Rattle.bits.specs.Bit.{bit}
 use Rattle.bits.specs.Upto.{place}
 use Rattle.bits.proofs.Bitwise.{bits_same}
 use Rattle.bits.proofs.Uptos.{by_place}
 use Rattle.facts.specs.declared.weight.Facts.{Facts}
 use Rattle.effects.specs.declared.known.Known.{Known}
-use Rattle.effects.specs.Facts.{Effect, Fact, none, known, known_is, effect, effects, either, later, facts}
-use Rattle.effects.specs.Sets.{intersection}
-use Rattle.facts.specs.Stored.{value_of, sets, is_known, stored}
+use Rattle.effects.specs.Facts.{Effect, unmakes, keeps, makes, Fact, Value, none, known, known_is, effect, effects, either, later, facts}
+use Rattle.effects.specs.Sets.{union, intersection, difference}
+use Rattle.facts.specs.Stored.{value_of, nothing, sets, is_known, stored, Proper, combined, extended}
 use Rattle.effects.proofs.Effects.{apart_bit}
 
 -- ---- records with a known value, and others
@@ -20,6 +23,13 @@ module _ (x : Facts) where
 
   pub value_none : is_known x ≡ false → value_of x ≡ none
   value_none e = rw e
+
+  -- a record is stored as its sets if it has a known value, and else as none
+  pub stored_known : is_known x ≡ true → stored x ≡ sets x.made x.unmade
+  stored_known e = rw e
+
+  pub stored_none : is_known x ≡ false → stored x ≡ nothing
+  stored_none e = rw e
 
   pub known_apart : is_known x ≡ true → intersection x.made x.unmade ≡ 0
   known_apart e = grind arith
@@ -40,6 +50,10 @@ module _ (x y out : Facts) (a b r : Known) (hx : Has x a) (hy : Has y b) (is : o
   answer_value : value_of out ≡ known (effects r.made r.unmade)
   answer_value = ap value_of is ∙ sets_value r.made r.unmade r.apart
 
+  -- the answer keeps the rule of stored records
+  pub answer_proper : Proper out
+  answer_proper = rw is r.apart
+
   pub combine_means : ((k : Fact) → effects r.made r.unmade k ≡ either (effects a.made a.unmade k) (effects b.made b.unmade k))
       → value_of out ≡ facts.combine (value_of x) (value_of y)
   combine_means each = answer_value ∙ known_is each ∙ sym (λ i. facts.combine (has_value x a hx i) (has_value y b hy i))
@@ -48,7 +62,52 @@ module _ (x y out : Facts) (a b r : Known) (hx : Has x a) (hy : Has y b) (is : o
       → value_of out ≡ facts.extend (value_of x) (value_of y)
   extend_means each = answer_value ∙ known_is each ∙ sym (λ i. facts.extend (has_value x a hx i) (has_value y b hy i))
 
+  -- what the sets of the answer come to, field by field
+  pub combine_value : r.made ≡ union a.made b.made → r.unmade ≡ intersection a.unmade b.unmade → out ≡ combined x y
+  combine_value m u = rw (is, m, u, hx.0, hy.0, hx.1, hx.2, hy.1, hy.2)
+
+  pub extend_value : r.made ≡ union b.made (difference a.made b.unmade) → r.unmade ≡ union b.unmade (difference a.unmade b.made)
+      → out ≡ extended x y
+  extend_value m u = rw (is, m, u, hx.0, hy.0, hx.1, hx.2, hy.1, hy.2)
+
 -- ---- records that mean the same
+
+-- whether an effect makes its fact, and whether it unmakes it
+is_makes : Effect → Bool
+is_makes makes = true
+is_makes keeps = false
+is_makes unmakes = false
+
+is_unmakes : Effect → Bool
+is_unmakes makes = false
+is_unmakes keeps = false
+is_unmakes unmakes = true
+
+-- they tell the sets that the effect came from
+makes_effect : (m u : Bool) → is_makes (effect m u) ≡ m
+unfolding is_makes
+makes_effect true u = refl
+makes_effect false true = refl
+makes_effect false false = refl
+
+unmakes_effect : (m u : Bool) → (m && u) ≡ false → is_unmakes (effect m u) ≡ u
+unfolding is_unmakes
+unmakes_effect true u p = sym p
+unmakes_effect false true p = refl
+unmakes_effect false false p = refl
+
+-- what the value does to a fact
+does : Value → Fact → Effect
+does none k = keeps
+does (known f) k = f k
+
+is_none : Value → Bool
+is_none none = true
+is_none (known f) = false
+
+-- none is no known value
+none_known : (f : Fact → Effect) → none ≢ known f
+none_known f e = cc
 
 -- an effect tells the sets that it came from
 effect_made : (m u m' u' : Bool) → effect m u ≡ effect m' u' → m ≡ m'
@@ -72,6 +131,11 @@ module _ (m u m' u' : ℕ) (e : known (effects m u) ≡ known (effects m' u')) w
       (by_place 16 (λ n. bit u n ≡ bit u' n)
       (λ k. let n = place 16 k in effect_unmade (bit m n) (bit u n) (bit m' n) (bit u' n) (effects_same k) (apart_bit m u p n) (apart_bit m' u' p' n)))
 
+-- a test says yes or no
+test : (b : Bool) → (b ≡ true) ⊎ (b ≡ false)
+test true = inl refl
+test false = inr refl
+
 -- a record means what it is stored as
 stored_value : (x : Facts) → value_of (stored x) ≡ value_of x
 stored_value x = grind arith
@@ -82,3 +146,25 @@ module _ (x y : Facts) where
 
   pub means_stored : x.made < 2 ^ 16 → x.unmade < 2 ^ 16 → y.made < 2 ^ 16 → y.unmade < 2 ^ 16 → value_of x ≡ value_of y → stored x ≡ stored y
   means_stored xm xu ym yu e = grind (arith, made_same, unmade_same)
+
+decides_beq : (b c : Bool) → Decides (beq b c) (b ≡ c)
+decides_beq b c = booleans_Decides b c
+
+-- records are compared field by field
+abbrev pub alike : Facts → Facts → Bool
+alike a b = (beq a.none b.none && a.made == b.made) && a.unmade == b.unmade
+
+decides_alike : (a b : Facts) → Decides (alike a b) (a ≡ b)
+decides_alike a b =
+    Decides-like (alike a b)
+    (λ h. λ i. record { none = h.0.0 i; made = h.0.1 i; unmade = h.1 i })
+    (λ e. ((ap (λ (x : Facts). x.none) e, ap (λ (x : Facts). x.made) e), ap (λ (x : Facts). x.unmade) e))
+    (Decides-and _ _ (Decides-and _ _ (decides_beq a.none b.none) (Decides-eqb a.made b.made)) (Decides-eqb a.unmade b.unmade))
+
+-- comparing the stored records compares what is stored, and the values
+module _ (x y a b : Facts) (p : a ≡ stored x) (q : b ≡ stored y) where
+  pub same_value : Decides (alike a b) (stored x ≡ stored y)
+  same_value = Decides-like (alike a b) (λ e. sym p ∙ e ∙ q) (λ e. p ∙ e ∙ sym q) (decides_alike a b)
+
+  pub same_means : x.made < 2 ^ 16 → x.unmade < 2 ^ 16 → y.made < 2 ^ 16 → y.unmade < 2 ^ 16 → Decides (alike a b) (value_of x ≡ value_of y)
+  same_means xm xu ym yu = Decides-like (alike a b) (stored_means x y) (means_stored x y xm xu ym yu) same_value
