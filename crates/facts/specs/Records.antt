@@ -86,15 +86,11 @@ is_unmakes unmakes = true
 -- they tell the sets that the effect came from
 makes_effect : (m u : Bool) → is_makes (effect m u) ≡ m
 unfolding is_makes
-makes_effect true u = refl
-makes_effect false true = refl
-makes_effect false false = refl
+makes_effect m u = grind arith
 
 unmakes_effect : (m u : Bool) → (m && u) ≡ false → is_unmakes (effect m u) ≡ u
 unfolding is_unmakes
-unmakes_effect true u p = sym p
-unmakes_effect false true p = refl
-unmakes_effect false false p = refl
+unmakes_effect m u p = grind arith
 
 -- what the value does to a fact
 does : Value → Fact → Effect
@@ -157,14 +153,14 @@ alike a b = (beq a.none b.none && a.made == b.made) && a.unmade == b.unmade
 decides_alike : (a b : Facts) → Decides (alike a b) (a ≡ b)
 decides_alike a b =
     Decides-like (alike a b)
-    (λ h. λ i. record { none = h.0.0 i; made = h.0.1 i; unmade = h.1 i })
-    (λ e. ((ap (λ (x : Facts). x.none) e, ap (λ (x : Facts). x.made) e), ap (λ (x : Facts). x.unmade) e))
+    (λ h i. record { none = h.0.0 i; made = h.0.1 i; unmade = h.1 i })
+    (λ e. rw e ((refl, refl), refl))
     (Decides-and _ _ (Decides-and _ _ (decides_beq a.none b.none) (Decides-eqb a.made b.made)) (Decides-eqb a.unmade b.unmade))
 
 -- comparing the stored records compares what is stored, and the values
 module _ (x y a b : Facts) (p : a ≡ stored x) (q : b ≡ stored y) where
   pub same_value : Decides (alike a b) (stored x ≡ stored y)
-  same_value = Decides-like (alike a b) (λ e. sym p ∙ e ∙ q) (λ e. p ∙ e ∙ sym q) (decides_alike a b)
+  same_value = Decides-like (alike a b) (λ e. cc) (λ e. cc) (decides_alike a b)
 
   pub same_means : x.made < 2 ^ 16 → x.unmade < 2 ^ 16 → y.made < 2 ^ 16 → y.unmade < 2 ^ 16 → Decides (alike a b) (value_of x ≡ value_of y)
   same_means xm xu ym yu = Decides-like (alike a b) (stored_means x y) (means_stored x y xm xu ym yu) same_value

@@ -43,7 +43,7 @@ pub pairs_or : (a b : ℕ) (i j : Flag) → pairs (bit_or a b) i j ≡ (pairs a 
 pairs_or a b i j = bit-or a b (8 * place 8 i + place 8 j)
 
 -- relations that are written out are compared pair by pair
-each_pair : (a b : Value) → every 8 (λ i. every 8 (λ j. beq (a i j) (b i j))) ≡ true → (i j : Flag) → a i j ≡ b i j
+pub each_pair : (a b : Value) → every 8 (λ i. every 8 (λ j. beq (a i j) (b i j))) ≡ true → (i j : Flag) → a i j ≡ b i j
 each_pair a b e i j =
     (booleans_Decides (a i j) (b i j)).0
     (every_true 8 (λ j. beq (a i j) (b i j)) (every_true 8 (λ i. every 8 (λ j. beq (a i j) (b i j))) e i) j)

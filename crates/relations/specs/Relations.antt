@@ -104,6 +104,10 @@ absent_same a b e = λ t i j.
     (total_same 8 (λ j. missing (union a b i j)) (λ j. missing (a i j)) (λ j. missing_le (a i j) (b i j))
     (total_same 8 (λ i. total 8 (λ j. missing (union a b i j))) (λ i. total 8 (λ j. missing (a i j))) (row_le a b) e i) j) t
 
+-- a number that is at most another, and not below it, is that number
+pub not_below : (m n : ℕ) → m ≤ n → (m < n → ⊥) → m ≡ n
+not_below m n h l = omega (arith, l)
+
 pub absent_falls : (a b : Value) → (union a b ≢ a) → absent (union a b) < absent a
 absent_falls a b ne =
     let fallen : absent (union a b) ≢ absent a = λ e. ne (absent_same a b e) in omega (arith, absent_le a b)
