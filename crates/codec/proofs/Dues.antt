@@ -25,7 +25,7 @@ module _ (k n : ℕ) where
       rw other
 
 -- a reader that stays before a fault
-read_missed : {W : Type 0} (look : List ℕ → Look W) (before : Standing) (e : EntryFault) → look before.left ≡ missed e before.left → Read look before before (Err e)
+pub read_missed : {W : Type 0} (look : List ℕ → Look W) (before : Standing) (e : EntryFault) → look before.left ≡ missed e before.left → Read look before before (Err e)
 read_missed look before e q = rw q (record { says = refl; stands = simp add-zero; within = omega arith; gone = refl })
 
 module _ {W : Type 0} (f : List ℕ → Option W) (k n : ℕ) (before : Standing) where
