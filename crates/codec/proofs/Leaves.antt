@@ -14,6 +14,7 @@ abbrev pub firsts : ℕ → ℕ → List ℕ → List ℕ
 firsts i zero l = []
 firsts i (suc n) l = get_or l i 0 ∷ firsts (i + 1) n l
 
+-- they are n
 pub length_firsts : (i n : ℕ) (l : List ℕ) → length (firsts i n l) ≡ n
 length_firsts i zero l = refl
 length_firsts i (suc n) l = ap suc (length_firsts (i + 1) n l)
@@ -67,9 +68,11 @@ module _ {W : Type 0} (f : List ℕ → Option W) (k n : ℕ) where
       record { says = ap (λ x. x.answer) q; leaves = ap (λ x. x.left) q }
 
   module _ (before : Standing) (l : List ℕ) (there : l ≡ before.left) (long : n + 1 ≤ length l) (kind : get_or l 0 0 ≡ k) where
+    -- what is left before it, as its kind, its body and what stands behind
     whole : before.left ≡ k ∷ (firsts 1 n l ++ drop (n + 1) before.left)
     whole = sym there ∙ fronted k n l long kind ∙ ap (λ m. k ∷ (firsts 1 n l ++ drop (n + 1) m)) there
 
+    -- where a reader stands that passed it
     went : (after : Standing) (b : Bool) → 0 < n → Passes (n + 1) before after b → after ≡ past (n + 1) before
     went after b some p = went_on before (n + 1) after b (omega arith) (omega (arith, ap length there)) p
 
@@ -108,13 +111,14 @@ module _ (l : List ℕ) (small : (k : ℕ) → get_or l k 0 < 256) where
   above (suc n) i a =
       let b : ℕ = a * 256 + get_or l i 0 in
       let m : ℕ = number_from_digits_after 256 b (firsts (i + 1) n l) in
-      let high : b / 256 ≡ a = omega (arith, small i) in
-      ap (λ (k : ℕ). m / k) (pow-suc 256 n) ∙ sym (div-div-eq-div-mul m (256 ^ n) 256) ∙ ap (λ (k : ℕ). k / 256) (above n (i + 1) b) ∙ high
+      rw (pow-suc 256 n, ← div-div-eq-div-mul m (256 ^ n) 256, above n (i + 1) b) (omega (arith, small i))
 
+  -- the byte in the place above them is the low byte of that number
   next : (n i a : ℕ) → byte_at n (number_from_digits_after 256 a (firsts i n l)) ≡ a % 256
   next zero i a = refl
   next (suc n) i a = ap (λ (m : ℕ). m % 256) (above (suc n) i a)
 
+  -- and the n bytes below it are the digits themselves
   bytes_firsts : (n i a : ℕ) → bytes_high_first n (number_from_digits_after 256 a (firsts i n l)) ≡ firsts i n l
   bytes_firsts zero i a = refl
   bytes_firsts (suc n) i a =
