@@ -62,7 +62,7 @@ module _ (x y out : Facts) (a b r : Known) (hx : Has x a) (hy : Has y b) (is : o
       → value_of out ≡ facts.extend (value_of x) (value_of y)
   extend_means each = answer_value ∙ known_is each ∙ sym (λ i. facts.extend (has_value x a hx i) (has_value y b hy i))
 
-  -- what the sets of the answer come to, field by field
+  -- where its sets come from those of the two, the answer is what combining or extending makes of the records
   pub combine_value : r.made ≡ union a.made b.made → r.unmade ≡ intersection a.unmade b.unmade → out ≡ combined x y
   combine_value m u = rw (is, m, u, hx.0, hy.0, hx.1, hx.2, hy.1, hy.2)
 
@@ -97,6 +97,7 @@ does : Value → Fact → Effect
 does none k = keeps
 does (known f) k = f k
 
+-- whether a value is none
 is_none : Value → Bool
 is_none none = true
 is_none (known f) = false
@@ -143,11 +144,12 @@ module _ (x y : Facts) where
   pub means_stored : x.made < 2 ^ 16 → x.unmade < 2 ^ 16 → y.made < 2 ^ 16 → y.unmade < 2 ^ 16 → value_of x ≡ value_of y → stored x ≡ stored y
   means_stored xm xu ym yu e = grind (arith, made_same, unmade_same)
 
+-- comparing two answers of tests decides whether they are equal
 decides_beq : (b c : Bool) → Decides (beq b c) (b ≡ c)
 decides_beq b c = booleans_Decides b c
 
 -- records are compared field by field
-abbrev pub alike : Facts → Facts → Bool
+abbrev alike : Facts → Facts → Bool
 alike a b = (beq a.none b.none && a.made == b.made) && a.unmade == b.unmade
 
 decides_alike : (a b : Facts) → Decides (alike a b) (a ≡ b)
