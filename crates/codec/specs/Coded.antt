@@ -40,6 +40,10 @@ pub record ReadsAs {W V : Type 0} (look : List ℕ → Look W) (meaning : W → 
 abbrev pub ReadsBack : {W V : Type 0} → (List ℕ → Look W) → (W → V) → V → List ℕ → Option ℕ → Type 0
 ReadsBack look meaning v out r = IfSome r (λ n. ReadsAs look meaning v out (drop n out))
 
+-- what was written from `at` on reads as a weight of the value v and leaves what stands behind
+abbrev pub ReadsBackAt : {W V : Type 0} → (List ℕ → Look W) → (W → V) → V → ℕ → List ℕ → Option ℕ → Type 0
+ReadsBackAt look meaning v at out r = IfSome r (λ end. ReadsAs look meaning v (drop at out) (drop end out))
+
 -- the rest of a pair whose first part is x
 abbrev pub pair_with : {X Y : Type 0} → (List ℕ → Look Y) → X → List ℕ → Look (Pair X Y)
 pair_with g x l = and_then (g l) (λ y. done (record { first = x; second = y }))

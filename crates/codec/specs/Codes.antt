@@ -1,10 +1,12 @@
 -- A kind of weight with entries, as its functions on lists of bytes and their laws.
-use Rattle.std.specs.Prelude.{◌≡◌, ℕ, List, ◌++◌, length, drop, Some, None, Option}
-use Rattle.std.proofs.Common.{sym, ap, ◌∙◌}
+use Rattle.std.specs.Prelude.{◌≡◌, ℕ, ◌+◌, ◌≤◌, List, ◌++◌, length, drop, Some, None, Option}
+use Rattle.std.proofs.Common.{sym, ap, ◌∙◌, arith}
 use Rattle.std.proofs.lemmas.List.{drop_at}
 use Rattle.codec.specs.Look.{Look}
+use Rattle.reading.specs.Places.{WrittenAt, WroteAt}
 use Rattle.reading.specs.Splice.{Written, Wrote}
-use Rattle.codec.specs.Coded.{ReadsAs, ReadsBack}
+use Rattle.reading.proofs.Puts.{drop_splice, drop_behind}
+use Rattle.codec.specs.Coded.{ReadsAs, ReadsBack, ReadsBackAt}
 
 pub record Code (W V : Type 0) : Type 0 where
   pub look : List ℕ → Look W
@@ -29,3 +31,19 @@ module _ {W V : Type 0} (k : Code W V) (x : W) where
   pub reads_back : (before after : List ℕ) (r : Option ℕ) → Wrote k.width (k.bytes x) before after r → ReadsBack k.look k.meaning (k.meaning x) after r
   reads_back before after None w = tt
   reads_back before after (Some n) w = written_reads w
+
+-- a written weight reads as its value, wherever it was written
+module _ {W V : Type 0} (k : Code W V) (x : W) (at : ℕ) (before after : List ℕ) where
+  pub reads_there : (end : ℕ) → WrittenAt at k.width (k.bytes x) before after end → ReadsAs k.look k.meaning (k.meaning x) (drop at after) (drop end after)
+  reads_there end w =
+      let h : at ≤ length before = omega (arith, w.room) in
+      let e : end ≡ at + length (k.bytes x) = omega (arith, w.next, k.wide x) in
+      let front : drop at after ≡ k.bytes x ++ drop end before =
+      ap (drop at) w.put ∙ drop_splice at (k.bytes x) before h ∙ ap (λ n. k.bytes x ++ drop n before) (sym e) in
+      let behind : drop end after ≡ drop end before =
+      (λ i. drop (e i) (w.put i)) ∙ drop_behind at (k.bytes x) before h ∙ ap (λ n. drop n before) (sym e) in
+      rw (front, behind) (k.back x (drop end before))
+
+  pub reads_back_at : (r : Option ℕ) → WroteAt at k.width (k.bytes x) before after r → ReadsBackAt k.look k.meaning (k.meaning x) at after r
+  reads_back_at None w = tt
+  reads_back_at (Some end) w = reads_there end w

@@ -1,7 +1,8 @@
 //! The interface of weights that are read and written as entries.
 ghost use Rattle.std.specs.Prelude.{◌≡◌, ℕ, ◌+◌, ◌<◌, List, ◌++◌, length, IfOk, MatchOption};
-ghost use Rattle.codec.specs.Coded.{Read, ReadsAs, ReadsBack, RoomLeft};
+ghost use Rattle.codec.specs.Coded.{Read, ReadsAs, ReadsBack, ReadsBackAt, RoomLeft};
 ghost use Rattle.codec.specs.Look.{Look};
+ghost use Rattle.reading.specs.Places.{WroteAt};
 ghost use Rattle.reading.specs.Splice.{Wrote};
 
 use reading::fault::EntryFault;
@@ -34,6 +35,19 @@ pub trait Coded: Weight {
     fn write(self, out: &mut [u8]) -> Option<usize>
         ensures wrote { Wrote width (bytes self) out.old out.new result }
         ensures back { ReadsBack look Self.Weight.meaning (Self.Weight.meaning self) out.new result };
+
+    // Writes the entries over the bytes from a place on, and says where they end. It writes nothing if they have no room
+    // there, also where the place is past the end.
+    fn write_at(self, out: &mut [u8], at: usize) -> Option<usize>
+        ensures wrote { WroteAt at width (bytes self) out.old out.new result }
+        ensures back { ReadsBackAt look Self.Weight.meaning (Self.Weight.meaning self) at out.new result }
+    {
+        if out.len() < at {
+            return None;
+        }
+        let n = self.write(&mut out[at..])?;
+        Some(at + n)
+    }
 
     ghost wide: { (x : Self) → length (bytes x) ≡ width };
 

@@ -1,7 +1,8 @@
 -- Writing into a buffer.
-use Rattle.std.proofs.Common.{◌≡◌, ℕ, ◌+◌, ◌-◌, List, [], ◌++◌, length, take, drop, ap, ◌∙◌, append_assoc, append-nil, arith, length-append, length-drop}
-use Rattle.std.proofs.lemmas.List.{take_at, drop_at, drop-drop, drop_all, take_rest}
+use Rattle.std.proofs.Common.{◌≡◌, ℕ, ◌+◌, ◌-◌, ◌≤◌, List, [], ◌++◌, length, take, drop, sym, refl, ap, ◌∙◌, append_assoc, append-nil, arith, length-append, length-drop}
+use Rattle.std.proofs.lemmas.List.{take_at, drop_at, drop-drop, drop_all, take_rest, length-take-le}
 use borrow.Rule.Slice.PartMut.{put_mid}
+use Rattle.reading.specs.Places.{splice_at}
 use Rattle.reading.specs.Splice.{Written}
 
 -- one write, and another into the rest of the buffer behind it
@@ -17,3 +18,13 @@ then_written {n} {m} {k} {r} {a} {b} {out} {mid} {rest} long p q =
       count = omega (arith, p.count, q.count);
       put = rw (front, none, append-nil, q.put, behind, drop-drop, length-append, append_assoc);
     }
+
+-- what stands from `at` on after a write there, and what stands behind it
+pub drop_splice : (at : ℕ) (bs out : List ℕ) → at ≤ length out → drop at (splice_at at bs out) ≡ bs ++ drop (at + length bs) out
+drop_splice at bs out h = drop_at (take at out) (bs ++ drop (at + length bs) out) at (length-take-le at out h)
+
+pub drop_behind : (at : ℕ) (bs out : List ℕ) → at ≤ length out → drop (at + length bs) (splice_at at bs out) ≡ drop (at + length bs) out
+drop_behind at bs out h =
+    sym (drop-drop (length bs) at (splice_at at bs out))
+    ∙ ap (drop (length bs)) (drop_splice at bs out h)
+    ∙ drop_at bs (drop (at + length bs) out) (length bs) refl

@@ -1,3 +1,4 @@
 pub mod Faults
+pub mod Places
 pub mod Splice
 pub mod Standing

@@ -1,5 +1,5 @@
 //! Goes over the input from entry to entry.
-ghost use Rattle.std.specs.Prelude.{◌≡◌, ◌+◌, ◌≤◌};
+ghost use Rattle.std.specs.Prelude.{◌≡◌, ◌+◌, ◌^◌, ◌<◌, ◌≤◌, length};
 ghost use Rattle.reading.specs.Standing.{start, Passes};
 
 use std::marker::Model;
@@ -51,9 +51,11 @@ impl<'a> Reader<'a> {
         self.passed + 1
     }
 
-    // Where the next entry begins, counted from 0.
+    // Where the next entry begins, counted from 0. What stands before it and what is left are one input, which lies in
+    // memory, so their bytes together are a number of the machine.
     pub fn place(&self) -> usize
-        ensures { result ≡ self.now.place }
+        ensures place { result ≡ self.now.place }
+        ensures within { self.now.place + length self.now.left < 2 ^ 63 }
     {
         self.at
     }

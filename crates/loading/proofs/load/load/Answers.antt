@@ -32,5 +32,5 @@ returns-in_err-load_call g c =
 pub returns : goal.returns
 returns g c =
     let k = at_end g.W.Coded.look g.W.Coded.bytes c.args.bytes.now c.args.draft.now c.args.strip.now c.loop-draft.reader
-    (at c.loop-draft.draft c.loop-draft.strip) c.place.result c.loop-draft.invariant (not-false _ (sym c.loop-draft-test.ensures)) c.place.ensures in
+    (at c.loop-draft.draft c.loop-draft.strip) c.place.result c.loop-draft.invariant (not-false _ (sym c.loop-draft-test.ensures)) c.place.ensures.place in
     record { state = k.state; answer = k.answer; again = k.again }
