@@ -15,8 +15,15 @@ use reading::reader::Reader;
 pub fn body<const N: usize>(from: &Reader<'_>, kind: u8) -> Result<[u8; N], EntryFault>
     ensures { result ≡ (due kind N from.now.left).answer }
 {
-    match from.rest() {
-        [k, rest @ ..] if *k == kind => rest.first_chunk().copied().ok_or(EntryFault::Cut),
+    let entry = from.rest();
+    match entry {
+        [k, rest @ ..] if *k == kind => {
+            // Asked of the whole entry, as the reader asks when it goes past: so a reading tests its length once.
+            if entry.len() <= N {
+                return Err(EntryFault::Cut);
+            }
+            rest.first_chunk().copied().ok_or(EntryFault::Cut)
+        }
         _ => Err(EntryFault::Due),
     }
 }

@@ -1,10 +1,12 @@
 -- Relations by their rows: row i of a relation is byte i of its number.
-use Rattle.std.proofs.Common.{◌≡◌, ℕ, zero, suc, ◌+◌, ◌*◌, ◌/◌, ◌%◌, ◌^◌, ◌<◌, Bool, true, false, ◌&&◌, ◌||◌, List, length, get_or, bit_and, bit_or, sym, refl, ap, ◌∙◌, subst, add-zero, add-one, arith, w64}
+use Rattle.std.proofs.Common.{◌≡◌, ℕ, zero, suc, ◌+◌, ◌*◌, ◌/◌, ◌%◌, ◌^◌, ◌<◌, ◌≤◌, Bool, true, false, ◌&&◌, ◌||◌, List, length, get_or, bit_and, bit_or, slice_set, sym, refl, ap, ◌∙◌, subst, add-zero, add-one, arith, w64}
 use Rattle.std.specs.Fn.{Called, Mut}
 use Rattle.std.specs.Array.{MapsFrom, IsMapOf}
 use Rattle.std.specs.Int.{to_le_bytes, from_le_bytes}
 use Rattle.std.proofs.Math.Bool.{or-false, or_assoc}
 use Rattle.std.proofs.lemmas.Grind.{common_steps}
+use Rattle.std.proofs.Math.Decide.{dec_lt}
+use Rattle.std.proofs.lemmas.List.{get_or-set_same, get_or-set_other, length-set}
 use Rattle.std.proofs.lemmas.Nat.{and_mask, le_bytes_8}
 use Rattle.std.proofs.lemmas.Bool.{eq-eqb, ne_eqb}
 use Rattle.bits.specs.Bit.{bit}
@@ -66,6 +68,32 @@ module _ {F A B : Type 0} {g : Mut F (A × Unit {0}) B} {f : F} (R : A → B →
 
   pub each_mapped : (n : ℕ) → IsMapOf g f xs ys n → (k : ℕ) → k < n → R (get_or xs k d) (get_or ys k e)
   each_mapped n m k h = each_from 0 n k k m.each h (omega arith)
+
+-- ---- the rows of a composition, made one after the other in the place of the picks
+
+-- the first n rows are made of the picks that stood there, and the picks behind them stand yet
+pub record Composing (picks rows : List ℕ) (n : ℕ) (now : List ℕ) : Type 0 where
+  pub long : length now ≡ length picks
+  pub made : (i : ℕ) → i < n → IsUnionOfPicked (get_or picks i 0) rows (get_or now i 0) × (get_or now i 0 < 256)
+  pub left : (i : ℕ) → n ≤ i → get_or now i 0 ≡ get_or picks i 0
+
+-- the next row
+pub composing_more : (picks rows : List ℕ) (n : ℕ) (now : List ℕ) (row : ℕ) → n < length now → Composing picks rows n now
+    → IsUnionOfPicked (get_or now n 0) rows row → row < 256 → Composing picks rows (n + 1) (slice_set now n row)
+composing_more picks rows n now row h c is small = record {
+  long = length-set now n row ∙ c.long;
+  made = λ i k.
+      elim (dec_lt i n) [
+        | yes lt ↦
+            let e : get_or (slice_set now n row) i 0 ≡ get_or now i 0 = get_or-set_other now n i row 0 (λ q. omega (arith, q, lt)) in
+            rw e (c.made i lt)
+        | no ge ↦
+            let q : i ≡ n = omega (arith, ge, k) in
+            let e : get_or (slice_set now n row) n 0 ≡ row = get_or-set_same now n row 0 h in
+            rw (q, e) (rw (c.left n (omega arith)) at is, small)
+      ];
+  left = λ i k. get_or-set_other now n i row 0 (λ q. omega (arith, q, k)) ∙ c.left i (omega (arith, k));
+}
 
 -- ---- the rows of a composition
 

@@ -64,7 +64,11 @@ impl Weight for Relation {
         ensures way { (i k : Flag) → Decides (pairs result.0 i k) ((j : Flag) × ((pairs self.0 i j ≡ true) × (pairs other.0 j k ≡ true))) }
     {
         let rows = other.0.to_le_bytes();
-        let composed = self.0.to_le_bytes().map(|picks| united(picks, rows));
+        let mut composed = self.0.to_le_bytes();
+        // In place, and not by `map`, which goes by way of an array of options and takes twice the time.
+        for row in &mut composed {
+            *row = united(*row, rows);
+        }
         Relation(u64::from_le_bytes(composed))
     }
 
