@@ -2,7 +2,8 @@
 use Rattle.std.proofs.Common.{◌≡◌, ℕ, zero, suc, ◌+◌, ◌*◌, ◌/◌, ◌%◌, ◌^◌, ◌<◌, ◌≤◌, Bool, true, eqb, leb, List, [], ◌∷◌, ◌++◌, length, get_or, drop, Some, Ok, Option, sym, refl, ap, ◌∙◌, add-zero, pow-suc, arith, length-append, eq-eqb, le-leb}
 use Rattle.std.specs.Int.{byte_at, bytes_high_first}
 use Rattle.std.specs.Int.Digits.{number_from_digits, number_from_digits_after}
-use Rattle.std.proofs.Math.Nat.{div-div-eq-div-mul}
+use Rattle.std.proofs.Math.Arith.{mod-mul}
+use Rattle.std.proofs.Math.Nat.{div-div-eq-div-mul, one-le-pow, pow-succ', mul_assoc, add-mul, add_assoc}
 use Rattle.std.proofs.lemmas.List.{take_at, drop_at, drop_more}
 use Rattle.reading.specs.Standing.{Standing, past, Passes}
 use Rattle.codec.specs.Look.{Look, due, judged, made_of}
@@ -129,3 +130,29 @@ module _ (l : List ℕ) (small : (k : ℕ) → get_or l k 0 < 256) where
 -- bytes that were read are those of the number that they are
 pub wide_firsts : (n i : ℕ) (l : List ℕ) → ((k : ℕ) → get_or l k 0 < 256) → bytes_high_first n (number_from_digits 256 (firsts i n l)) ≡ firsts i n l
 wide_firsts n i l small = bytes_firsts l small n i 0
+
+-- ---- the bytes of a number, and the number that they are
+
+-- they are as many as asked for
+pub length_wide : (n v : ℕ) → length (bytes_high_first n v) ≡ n
+length_wide zero v = refl
+length_wide (suc n) v = ap suc (length_wide n v)
+
+-- byte i of a number
+byte_is : (i v : ℕ) → byte_at i v ≡ v / 256 ^ i % 256
+byte_is zero v = omega arith
+byte_is (suc i) v = refl
+
+-- what they add to the digits before them
+number_behind : (n a v : ℕ) → number_from_digits_after 256 a (bytes_high_first n v) ≡ a * 256 ^ n + v % 256 ^ n
+number_behind zero a v = omega arith
+number_behind (suc n) a v =
+    let b : ℕ = v / 256 ^ n % 256 in
+    let more : v % (256 * 256 ^ n) ≡ b * 256 ^ n + v % 256 ^ n = mod-mul v (omega arith) (one-le-pow n 256 (omega arith)) in
+    ap (λ (d : ℕ). number_from_digits_after 256 (a * 256 + d) (bytes_high_first n v)) (byte_is n v)
+    ∙ number_behind n (a * 256 + b) v
+    ∙ rw (pow-succ' 256 n, more, add-mul (a * 256) b (256 ^ n), mul_assoc a 256 (256 ^ n)) (add_assoc _ _ _)
+
+-- the low part of the number, in that many bytes
+pub number_wide : (n v : ℕ) → number_from_digits 256 (bytes_high_first n v) ≡ v % 256 ^ n
+number_wide n v = number_behind n 0 v ∙ omega arith
