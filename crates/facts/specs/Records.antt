@@ -73,37 +73,37 @@ module _ (x y out : Facts) (a b r : Known) (hx : Has x a) (hy : Has y b) (is : o
 -- ---- records that mean the same
 
 -- whether an effect makes its fact, and whether it unmakes it
-is_makes : Effect → Bool
+pub is_makes : Effect → Bool
 is_makes makes = true
 is_makes keeps = false
 is_makes unmakes = false
 
-is_unmakes : Effect → Bool
+pub is_unmakes : Effect → Bool
 is_unmakes makes = false
 is_unmakes keeps = false
 is_unmakes unmakes = true
 
 -- they tell the sets that the effect came from
-makes_effect : (m u : Bool) → is_makes (effect m u) ≡ m
+pub makes_effect : (m u : Bool) → is_makes (effect m u) ≡ m
 unfolding is_makes
 makes_effect m u = grind arith
 
-unmakes_effect : (m u : Bool) → (m && u) ≡ false → is_unmakes (effect m u) ≡ u
+pub unmakes_effect : (m u : Bool) → (m && u) ≡ false → is_unmakes (effect m u) ≡ u
 unfolding is_unmakes
 unmakes_effect m u p = grind arith
 
 -- what the value does to a fact
-does : Value → Fact → Effect
+pub does : Value → Fact → Effect
 does none k = keeps
 does (known f) k = f k
 
 -- whether a value is none
-is_none : Value → Bool
+pub is_none : Value → Bool
 is_none none = true
 is_none (known f) = false
 
 -- none is no known value
-none_known : (f : Fact → Effect) → none ≢ known f
+pub none_known : (f : Fact → Effect) → none ≢ known f
 none_known f e = cc
 
 -- an effect tells the sets that it came from
@@ -129,7 +129,7 @@ module _ (m u m' u' : ℕ) (e : known (effects m u) ≡ known (effects m' u')) w
       (λ k. let n = place 16 k in effect_unmade (bit m n) (bit u n) (bit m' n) (bit u' n) (effects_same k) (apart_bit m u p n) (apart_bit m' u' p' n)))
 
 -- a test says yes or no
-test : (b : Bool) → (b ≡ true) ⊎ (b ≡ false)
+pub test : (b : Bool) → (b ≡ true) ⊎ (b ≡ false)
 test true = inl refl
 test false = inr refl
 

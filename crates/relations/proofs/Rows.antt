@@ -58,6 +58,7 @@ module _ (picks : ℕ) (rows : List ℕ) where
 
 -- ---- what each call of a closure gave, where no call changes the closure
 
+-- a fact that every call of a mapped closure gives holds of each item and what it became, for any array that is mapped
 module _ {F A B : Type 0} {g : Mut F (A × Unit {0}) B} {f : F} (R : A → B → Type 0) (call : (x : A) (y : B) (q : F) → Called g f (x, tt) y q → R x y × (q ≡ f))
     (xs : List A) (ys : List B) (d : A) (e : B) where
   each_from : (i n j k : ℕ) → MapsFrom g f xs ys i n → j < n → k ≡ i + j → R (get_or xs k d) (get_or ys k e)
